@@ -1,0 +1,4 @@
+pub mod Outcome
+pub mod Checks
+pub mod Region
+pub mod Filled

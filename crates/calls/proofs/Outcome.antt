@@ -1,0 +1,40 @@
+-- Laws of an outcome: what a check gives when its test is known, what an accepted call tells, and what a call leaves.
+-- Assumes nothing.
+use mathlib.Core.Path.{_≡_, refl}
+use mathlib.Core.Bool.{Bool, true, false}
+use mathlib.Core.List.{List}
+use Prim.Native.Nat.{ℕ}
+use native.Mathlib.Omega.{arith}
+use lib.ListN.{length}
+use Rattle.calls.specs.Outcome.{Outcome, accepted, refused, refuse, leaves}
+
+-- an accepted call is not refused
+pub accepted-refused : {o : Outcome} {number place : ℕ} → o ≡ accepted → o ≡ refused number place → ⊥
+accepted-refused a r = let z : _≡_ {A = ℕ} 0 1 = cc in omega arith
+
+-- a check whose test holds refuses
+pub refuse-true : {t : Bool} (number place : ℕ) (after : Outcome) → t ≡ true → refuse t number place after ≡ refused number place
+refuse-true number place after e = rw e
+
+-- a check whose test fails gives what comes after
+pub refuse-false : {t : Bool} (number place : ℕ) (after : Outcome) → t ≡ false → refuse t number place after ≡ after
+refuse-false number place after e = rw e
+
+-- an accepted call failed the test of its first check, and what comes after accepts
+pub refuse-accepted : (t : Bool) (number place : ℕ) (after : Outcome) → refuse t number place after ≡ accepted → (t ≡ false) × (after ≡ accepted)
+refuse-accepted true number place after e = absurd (accepted-refused e refl)
+refuse-accepted false number place after e = (refl, e)
+
+module _ {A : Type 0} (new old : List A) where
+  -- an accepted call leaves the new entries
+  pub leaves-accepted : {o : Outcome} → o ≡ accepted → leaves o new old ≡ new
+  leaves-accepted e = rw e
+
+  -- a refused call writes nothing
+  pub leaves-refused : {o : Outcome} {number place : ℕ} → o ≡ refused number place → leaves o new old ≡ old
+  leaves-refused e = rw e
+
+  -- an output keeps its length
+  pub leaves-length : (o : Outcome) → length new ≡ length old → length (leaves o new old) ≡ length old
+  leaves-length accepted e = e
+  leaves-length (refused number place) e = refl

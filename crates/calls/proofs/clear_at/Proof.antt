@@ -1,0 +1,42 @@
+-- `calls::clear_at` meets its contract: after i turns the first i of n zeros stand in place.
+-- Assumes nothing.
+use mathlib.Core.Path.{refl, sym}
+use Prim.Native.Nat.{_-_}
+use lib.ListN.{replicate, length-replicate, getD-replicate}
+use Rattle.calls.proofs.Filled.{Filled, filled-none, filled-more, filled-all}
+use borrow.Author.Needs.{needs}
+use Rattle.calls.proofs.clear_at.Statement.{statement}
+use Rattle.calls.proofs.clear_at.Tie as tie
+
+abbrev Inv-loop : tie.InvT-loop
+Inv-loop work₀ at n i₀ work i = Filled work₀ at n (replicate n 0) i work
+
+abbrev μ-loop : tie.MeasureT-loop
+μ-loop work₀ at n i₀ work i = n - i
+
+loop-holds : tie.Need-loop-holds Inv-loop μ-loop
+loop-holds c = filled-none (length-replicate _ 0) (c .pre)
+
+loop-again : tie.Need-loop-again Inv-loop μ-loop
+loop-again c =
+    filled-more 0 (c .before .loop .inv) (c .loop-test .taken) refl
+    (sym (getD-replicate (c .before .before .args .n) (c .before .loop .i) 0 0 (c .loop-test .taken)))
+
+returns : tie.Need-returns Inv-loop μ-loop
+returns c = filled-all (c .before .loop .inv) (c .loop-test .left)
+
+pub clear-at-spec : {M : Type 1} → statement M
+clear-at-spec =
+    tie.close
+    (tie.spec
+    Inv-loop
+    μ-loop
+    loop-holds
+    (λ c. search needs)
+    (λ c. search needs)
+    (λ c. search needs)
+    (λ c. search needs)
+    (λ c. search needs)
+    loop-again
+    (λ c. search needs)
+    returns)

@@ -1,0 +1,27 @@
+-- A region of a list: its entries from a place on, a list with other entries in a region, and two regions that are apart.
+-- By these the contracts speak of the parts of one lent slice, as of the work slice (01, How each call answers).
+-- Assumes nothing.
+use mathlib.Core.Path.{_≡_, refl}
+use mathlib.Core.List.{List, [], _∷_, _++_}
+use Prim.Native.Nat.{ℕ, _+_, _<_}
+use lib.ListN.{length, take, drop}
+
+-- the n entries of xs from place at on
+unfoldable pub region : {A : Type 0} → List A → ℕ → ℕ → List A
+region xs at n = take n (drop at xs)
+
+-- xs with ys in place from at on
+unfoldable pub over : {A : Type 0} → List A → ℕ → List A → List A
+over xs at ys = take at xs ++ ys ++ drop (at + length ys) xs
+
+-- the n places from one on and the m places from another on have no place in common
+pub record Apart (one n other m : ℕ) : Type 0 where
+  pub apart : (i j : ℕ) → i < n → j < m → one + i ≡ other + j → ⊥
+
+region-example : _≡_ {A = List ℕ} (region (1 ∷ 2 ∷ 3 ∷ 4 ∷ []) 1 2) (2 ∷ 3 ∷ [])
+unfolding region
+region-example = refl
+
+over-example : _≡_ {A = List ℕ} (over (1 ∷ 2 ∷ 3 ∷ 4 ∷ []) 1 (8 ∷ 9 ∷ [])) (1 ∷ 8 ∷ 9 ∷ 4 ∷ [])
+unfolding over
+over-example = refl

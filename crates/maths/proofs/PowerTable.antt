@@ -1,0 +1,118 @@
+-- Tables of powers of a root: a table that passes the test holds the powers, and its root has the order of its size.
+-- Assumes nothing.
+use mathlib.Core.Path.{_≡_, refl, sym, ap, _∙_}
+use mathlib.Core.Logic.{_≢_}
+use mathlib.Core.Bool.{Bool, true, false, not, _&&_}
+use mathlib.Core.List.{List, [], _∷_}
+use Prim.Native.Nat.{ℕ, zero, suc, _+_, _-_, _*_, _/_, _%_, _^_, _≤_, _<_}
+use native.Mathlib.Nat.{pow-zero, pow-suc, pow-succ', one-mul, mod-eq-of-lt, le-of-suc-le-suc, le-mul-of-pos-right, sub-add-cancel}
+use native.Mathlib.Omega.{arith}
+use borrow.Author.Tests.{eqb-true, eqb-false, not-true}
+use lib.Dec.{eqb}
+use lib.ListN.{length, getD}
+use Rattle.maths.specs.Vector.{tabulate}
+use Rattle.maths.specs.Congruence.{Mod}
+use Rattle.maths.specs.Prime.{Prime}
+use Rattle.maths.specs.Root.{RootOfOrder, powerTable, inverseRoot, inverseSize, continues, isPowerTable}
+use Rattle.maths.proofs.Vector.{tabulate-unique}
+use Rattle.maths.proofs.Congruence.{mod-eq, mod-trans, mod-mul, mod-refl, mod-remainder, mod-add-multiple}
+
+-- both parts of a test hold where the test does
+both : (a b : Bool) → (a && b) ≡ true → (a ≡ true) × (b ≡ true)
+both true b e = (refl, e)
+both false b e = let z : _≡_ {A = ℕ} 0 1 = cc in absurd (omega arith)
+
+-- one more factor w: what continues from x · w modulo q is what comes one place later from x
+shift : (q w x y k : ℕ) → y ≡ x * w % q → y * w ^ k % q ≡ x * w ^ suc k % q
+shift q w x y k e =
+    let factor : x * w * w ^ k ≡ x * w ^ suc k = rw pow-suc (omega arith) in
+    let product : Mod q (y * w ^ k) (x * w * w ^ k) = mod-mul (mod-trans (mod-eq e) (mod-remainder q (x * w))) (mod-refl (w ^ k)) in
+    rw factor at (product .same)
+
+module _ (q w : ℕ) where
+  -- an entry of a table that continues from x, by its place
+  continues-at : (x : ℕ) (ys : List ℕ) → continues q w x ys ≡ true → (k : ℕ) → k < length ys → (getD ys k 0 ≡ x * w ^ suc k % q) × (getD ys k 0 ≢ 1)
+  unfolding continues
+  continues-at x [] e k h = absurd (omega arith)
+  continues-at x (y ∷ ys) e zero h =
+      let s = both (eqb y (x * w % q)) (not (eqb y 1) && continues q w y ys) e in
+      (eqb-true y (x * w % q) (s .0) ∙ rw (pow-suc, pow-zero, one-mul), eqb-false y 1 (not-true (eqb y 1) (both (not (eqb y 1)) (continues q w y ys) (s .1) .0)))
+  continues-at x (y ∷ ys) e (suc k) h =
+      let s = both (eqb y (x * w % q)) (not (eqb y 1) && continues q w y ys) e in
+      let r = continues-at y ys (both (not (eqb y 1)) (continues q w y ys) (s .1) .1) k (le-of-suc-le-suc h) in
+      (r .0 ∙ shift q w x y (suc k) (eqb-true y (x * w % q) (s .0)), r .1)
+
+  -- the entry that would follow the last is 1
+  continues-end : (x : ℕ) (ys : List ℕ) → continues q w x ys ≡ true → x * w ^ suc (length ys) % q ≡ 1
+  unfolding continues
+  continues-end x [] e = rw (pow-suc, pow-zero, one-mul) (eqb-true (x * w % q) 1 e)
+  continues-end x (y ∷ ys) e =
+      let s = both (eqb y (x * w % q)) (not (eqb y 1) && continues q w y ys) e in
+      sym (shift q w x y (suc (length ys)) (eqb-true y (x * w % q) (s .0))) ∙ continues-end y ys (both (not (eqb y 1)) (continues q w y ys) (s .1) .1)
+
+-- what the test of a table tells: it begins with 1, has D entries and continues from 1
+record Passed (q w D : ℕ) (ys : List ℕ) : Type 0 where
+  size : suc (length ys) ≡ D
+  rest : continues q w 1 ys ≡ true
+
+passed : (q w D y : ℕ) (ys : List ℕ) → isPowerTable q w D (y ∷ ys) ≡ true → (y ≡ 1) × Passed q w D ys
+unfolding isPowerTable
+passed q w D y ys e =
+    let s = both (eqb y 1) (eqb (suc (length ys)) D && continues q w y ys) e in
+    let t = both (eqb (suc (length ys)) D) (continues q w y ys) (s .1) in
+    let first : y ≡ 1 = eqb-true y 1 (s .0) in
+    (first, record { size = eqb-true (suc (length ys)) D (t .0); rest = rw first at (t .1) })
+
+-- a table that passes the test holds the powers of w
+pub power-table : (q w D : ℕ) (xs : List ℕ) → 1 < q → isPowerTable q w D xs ≡ true → xs ≡ powerTable q w D
+unfolding isPowerTable powerTable
+power-table q w D [] h e = let z : _≡_ {A = ℕ} 0 1 = cc in absurd (omega arith)
+power-table q w D (y ∷ ys) h e = tabulate-unique D (λ i. w ^ i % q) (y ∷ ys) (passed q w D y ys e .1 .size) entry
+  where
+    entry : (i : ℕ) → i < D → getD (y ∷ ys) i 0 ≡ w ^ i % q
+    entry zero low = rw (passed q w D y ys e .0, pow-zero) (sym (mod-eq-of-lt h))
+    entry (suc k) low =
+        let p = passed q w D y ys e .1 in
+        continues-at q w 1 ys (p .rest) k (omega (arith, p .size)) .0 ∙ rw one-mul
+
+-- the inverse of the size, where the size D divides q − 1
+size-inverse : (q D : ℕ) → 0 < D → 0 < q → (q - 1) / D * D ≡ q - 1 → Mod q ((q - (q - 1) / D) * D) 1
+size-inverse q (suc l) some above divides =
+    let low : (q - 1) / suc l ≤ (q - 1) / suc l * suc l = le-mul-of-pos-right ((q - 1) / suc l) some in
+    let whole : q - (q - 1) / suc l + (q - 1) / suc l ≡ q = sub-add-cancel (omega arith) in
+    let product : (q - (q - 1) / suc l) * suc l ≡ 1 + l * q = omega (arith, ap (λ (y : ℕ). y * suc l) whole) in
+    rw product (mod-add-multiple q 1 l)
+size-inverse q zero some above divides = absurd (omega arith)
+
+-- the inverse of a root of order D
+root-inverse : (q w D : ℕ) → 0 < D → Mod q (w ^ D) 1 → Mod q (w * (w ^ (D - 1) % q)) 1
+root-inverse q w D some power =
+    let product : w * w ^ (D - 1) ≡ w ^ D = sym (pow-succ' w (D - 1)) ∙ ap (λ (n : ℕ). w ^ n) (omega arith) in
+    mod-trans (mod-mul (mod-refl w) (mod-remainder q (w ^ (D - 1)))) (rw product power)
+
+-- its root has the order D
+pub root-of-table : (q w D : ℕ) (xs : List ℕ) → Prime q → (q - 1) / D * D ≡ q - 1 → isPowerTable q w D xs ≡ true
+    → RootOfOrder q D w
+unfolding isPowerTable inverseRoot inverseSize
+root-of-table q w D [] prime divides e = let z : _≡_ {A = ℕ} 0 1 = cc in absurd (omega arith)
+root-of-table q w D (y ∷ ys) prime divides e =
+    let p = passed q w D y ys e .1 in
+    let one : 1 % q ≡ 1 = mod-eq-of-lt (prime .above) in
+    let last : w ^ D % q ≡ 1 = rw (← p .size) (rw one-mul at (continues-end q w 1 ys (p .rest))) in
+    let some : 0 < D = omega (arith, p .size) in
+    let power : Mod q (w ^ D) 1 = record { same = last ∙ sym one } in
+    record {
+      prime = prime;
+      some = some;
+      power = power;
+      order = λ t low high h. differs t low high (h .same ∙ one);
+      root-inverse = root-inverse q w D some power;
+      size-inverse = size-inverse q D some (omega (arith, prime .above)) divides;
+    }
+  where
+    differs : (t : ℕ) → 0 < t → t < D → w ^ t % q ≡ 1 → ⊥
+    differs zero low high h = absurd (omega arith)
+    differs (suc k) low high h =
+        let p = passed q w D y ys e .1 in
+        let c = continues-at q w 1 ys (p .rest) k (omega (arith, p .size)) in
+        c .1 (c .0 ∙ rw one-mul h)

@@ -1,0 +1,9 @@
+pub mod Vector
+pub mod Sum
+pub mod Congruence
+pub mod Product
+pub mod Transform
+pub mod Prime
+pub mod Root
+pub mod Integer
+pub mod Rounding

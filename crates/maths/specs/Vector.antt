@@ -1,0 +1,23 @@
+-- Vectors as lists of numbers: the number at a place, and a list given by a formula.
+-- Assumes nothing.
+use mathlib.Core.Path.{_≡_, refl}
+use mathlib.Core.List.{List, [], _∷_, _++_}
+use Prim.Native.Nat.{ℕ, zero, suc, _+_, _*_}
+use lib.ListN.{getD}
+
+-- the number at place i, and 0 past the end: a vector padded with zeros (Zpad, 003 algorithm 14) reads the same
+abbrev pub at : List ℕ → ℕ → ℕ
+at xs i = getD xs i 0
+
+-- f 0, f 1, .., f (n − 1): the first n places of f (Trunc, 003 algorithm 13)
+unfoldable pub tabulate : ℕ → (ℕ → ℕ) → List ℕ
+tabulate zero f = []
+tabulate (suc n) f = tabulate n f ++ (f n ∷ [])
+
+-- place i of vector j, where vectors of length n stand one after the other
+abbrev pub block : ℕ → List ℕ → ℕ → ℕ → ℕ
+block n xs j i = at xs (n * j + i)
+
+tabulate-example : tabulate 4 (λ i. 2 * i + 1) ≡ 1 ∷ 3 ∷ 5 ∷ 7 ∷ []
+unfolding tabulate
+tabulate-example = refl

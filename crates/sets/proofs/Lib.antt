@@ -1,0 +1,4 @@
+pub mod Tested
+pub mod Rules
+pub mod Lengths
+pub mod Transforms

@@ -1,0 +1,93 @@
+-- Numbers that follow from a set's parameters: 003, sections 2.2.2 (N_dec), 2.2.3 (algorithms 9 and 10) and 3.1 (byte lengths).
+-- Assumes nothing.
+use mathlib.Core.Path.{_≡_, refl}
+use mathlib.Core.Bool.{Bool, true, false, cond}
+use mathlib.Core.List.{List, [], _∷_, map}
+use Prim.Native.Nat.{ℕ, _+_, _-_, _*_, _/_, max}
+use lib.Dec.{leb, eqb}
+use Rattle.maths.specs.Root.{powerTable}
+use Rattle.sets.specs.declared.Parameters.{Parameters}
+use Rattle.sets.specs.Table.{none, table, setOf}
+
+-- the half modulus h (01)
+unfoldable pub halfModulus : Parameters → ℕ
+halfModulus p = (p .q - 1) / 2
+
+-- the transform sizes d1, d2, d3 and their roots ω1, ω2, ω3, by their number
+unfoldable pub transformSize : Parameters → ℕ → ℕ
+transformSize p i = cond (eqb i 1) (p .d1) (cond (eqb i 2) (p .d2) (p .d3))
+
+unfoldable pub transformRoot : Parameters → ℕ → ℕ
+transformRoot p i = cond (eqb i 1) (p .w1) (cond (eqb i 2) (p .w2) (p .w3))
+
+-- the powers of a set's root number i, one for each place of its transform
+unfoldable pub rootPowers : Parameters → ℕ → List ℕ
+rootPowers p i = powerTable (p .q) (transformRoot p i) (transformSize p i)
+
+-- N_dec: how many multipliers one sealing draws
+unfoldable pub multiplierCount : Parameters → ℕ
+multiplierCount p = p .t * (p .k + 1)
+
+-- Zbbytes: the bytes that the size of one multiplier is drawn from (algorithm 10)
+unfoldable pub multiplierBytes : Parameters → ℕ
+multiplierBytes p = (max (p .b1) (p .b2) + 7) / 8
+
+-- the bytes that all multipliers of one sealing are drawn from: sizes, then one sign bit each (algorithm 10)
+unfoldable pub multiplierDrawBytes : Parameters → ℕ
+multiplierDrawBytes p = multiplierCount p * multiplierBytes p + multiplierCount p / 8
+
+-- the bytes that all errors of one key are drawn from (algorithm 9)
+unfoldable pub errorDrawBytes : Parameters → ℕ
+errorDrawBytes p = p .t * (p .d + p .k + 1)
+
+-- the bytes that hold a count of numbers of some bits each, packed without gaps (algorithm 17)
+unfoldable pub packedBytes : ℕ → ℕ → ℕ
+packedBytes count bits = (count * bits + 7) / 8
+
+-- a public key: the seed of the a_i, then the packed transforms of the b_i (algorithm 25)
+unfoldable pub publicKeyBytes : Parameters → ℕ
+publicKeyBytes p = 32 + packedBytes (p .d1 * p .t) (p .width)
+
+-- a ciphertext of the encryption scheme: the packed transform of c1, then c2 with its low bits dropped (algorithm 23)
+unfoldable pub sealedBytes : Parameters → ℕ
+sealedBytes p = packedBytes (p .d2) (p .width) + packedBytes (p .d) (p .width - p .cmp)
+
+-- sets 1 to 6 are the encryption scheme's, sets 7 to 12 the key exchange's
+unfoldable pub isEncryption : ℕ → Bool
+isEncryption set = cond (leb 1 set) (leb set 6) false
+
+unfoldable pub isExchange : ℕ → Bool
+isExchange set = cond (leb 7 set) (leb set 12) false
+
+-- a secret key: a seed, and in the key exchange the public key after it (algorithm 29)
+unfoldable pub secretKeyBytes : ℕ → ℕ
+secretKeyBytes set = 32 + cond (isExchange set) (publicKeyBytes (setOf set)) 0
+
+-- a ciphertext: in the key exchange 32 bytes more, d_cca (algorithm 31)
+unfoldable pub ciphertextBytes : ℕ → ℕ
+ciphertextBytes set = sealedBytes (setOf set) + cond (isExchange set) 32 0
+
+-- the byte lengths of a set: public key, secret key, ciphertext
+lengths : ℕ → List ℕ
+lengths set = publicKeyBytes (setOf set) ∷ secretKeyBytes set ∷ ciphertextBytes set ∷ []
+
+-- they are those of 003, tables 3.1 and 3.2
+published : List (List ℕ)
+published =
+    (11552 ∷ 32 ∷ 2560 ∷ []) ∷
+    (13088 ∷ 32 ∷ 2976 ∷ []) ∷
+    (14720 ∷ 32 ∷ 3520 ∷ []) ∷
+    (16448 ∷ 32 ∷ 4512 ∷ []) ∷
+    (17952 ∷ 32 ∷ 6016 ∷ []) ∷
+    (23552 ∷ 32 ∷ 8320 ∷ []) ∷
+    (12192 ∷ 12224 ∷ 2720 ∷ []) ∷
+    (14720 ∷ 14752 ∷ 3008 ∷ []) ∷
+    (16352 ∷ 16384 ∷ 3552 ∷ []) ∷
+    (18272 ∷ 18304 ∷ 4544 ∷ []) ∷
+    (20512 ∷ 20544 ∷ 6048 ∷ []) ∷
+    (26912 ∷ 26944 ∷ 8352 ∷ []) ∷
+    []
+
+lengths-published : map lengths (1 ∷ 2 ∷ 3 ∷ 4 ∷ 5 ∷ 6 ∷ 7 ∷ 8 ∷ 9 ∷ 10 ∷ 11 ∷ 12 ∷ []) ≡ published
+unfolding none table setOf packedBytes publicKeyBytes sealedBytes isExchange secretKeyBytes ciphertextBytes lengths published
+lengths-published = refl

@@ -1,0 +1,94 @@
+// Numbers that follow from a set's parameters (specs/Derived.antt). A set's own parameters keep the rules that these functions require.
+use crate::Parameters;
+ghost use mathlib.Core.Path.{_≡_};
+ghost use Prim.Native.Nat.{_*_, _<_, _≤_, _^_};
+ghost use Rattle.sets.specs.Table.{setOf};
+ghost use Rattle.sets.specs.Rules.{Rules};
+ghost use Rattle.sets.specs.Derived.{halfModulus, multiplierCount, multiplierBytes, packedBytes, publicKeyBytes, sealedBytes, isEncryption, isExchange, secretKeyBytes, ciphertextBytes};
+
+// The half modulus h.
+pub fn half_modulus(p: Parameters) -> u32
+    requires { ⌜ Rules p ⌝ }
+    ensures { λ r. ⌜ r ≡ halfModulus p ⌝ }
+{
+    (p.q - 1) / 2
+}
+
+// N_dec: how many multipliers one sealing draws.
+pub fn multiplier_count(p: Parameters) -> usize
+    requires { ⌜ Rules p ⌝ }
+    ensures { λ r. ⌜ r ≡ multiplierCount p ⌝ }
+{
+    p.t * (p.k + 1)
+}
+
+// Zbbytes: the bytes that the size of one multiplier is drawn from.
+pub fn multiplier_bytes(p: Parameters) -> usize
+    requires { ⌜ Rules p ⌝ }
+    ensures { λ r. ⌜ r ≡ multiplierBytes p ⌝ }
+{
+    (p.b2 as usize + 7) / 8
+}
+
+// The bytes that hold some numbers of some bits each.
+pub fn packed_bytes(count: usize, bits: usize) -> usize
+    requires { ⌜ count * bits ≤ 2 ^ 32 ⌝ }
+    ensures { λ r. ⌜ r ≡ packedBytes count bits ⌝ }
+{
+    (count * bits + 7) / 8
+}
+
+// The bytes of a public key.
+pub fn public_key_bytes(p: Parameters) -> usize
+    requires { ⌜ Rules p ⌝ }
+    ensures { λ r. ⌜ r ≡ publicKeyBytes p ⌝ }
+{
+    32 + packed_bytes(p.d1 * p.t, p.width as usize)
+}
+
+// The bytes of a ciphertext of the encryption scheme.
+pub fn sealed_bytes(p: Parameters) -> usize
+    requires { ⌜ Rules p ⌝ }
+    ensures { λ r. ⌜ r ≡ sealedBytes p ⌝ }
+{
+    packed_bytes(p.d2, p.width as usize) + packed_bytes(p.d, (p.width - p.cmp) as usize)
+}
+
+// Sets 1 to 6 are the encryption scheme's.
+pub fn is_encryption(set: usize) -> bool
+    ensures { λ r. ⌜ r ≡ isEncryption set ⌝ }
+{
+    1 <= set && set <= 6
+}
+
+// Sets 7 to 12 are the key exchange's.
+pub fn is_exchange(set: usize) -> bool
+    ensures { λ r. ⌜ r ≡ isExchange set ⌝ }
+{
+    7 <= set && set <= 12
+}
+
+// The bytes of a set's secret key.
+pub fn secret_key_bytes(set: usize) -> usize
+    requires { ⌜ set < 13 ⌝ }
+    ensures { λ r. ⌜ r ≡ secretKeyBytes set ⌝ }
+{
+    if is_exchange(set) {
+        32 + public_key_bytes(crate::parameters_of(set))
+    } else {
+        32
+    }
+}
+
+// The bytes of a set's ciphertext.
+pub fn ciphertext_bytes(set: usize) -> usize
+    requires { ⌜ set < 13 ⌝ }
+    ensures { λ r. ⌜ r ≡ ciphertextBytes set ⌝ }
+{
+    let sealed = sealed_bytes(crate::parameters_of(set));
+    if is_exchange(set) {
+        sealed + 32
+    } else {
+        sealed
+    }
+}

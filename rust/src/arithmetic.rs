@@ -1,0 +1,126 @@
+//! Transforms by columns and rows, middle products, and the two roundings.
+
+use crate::parameters::Set;
+
+/// A transform of one size of a set, with the powers of its root.
+pub struct Transform {
+    q: u64,
+    size: usize,
+    row: usize,
+    powers: Vec<u32>,
+    row_powers: Vec<u32>,
+}
+
+impl Transform {
+    /// The transform of size number i (0 to 2) of a set, with the root or with its inverse.
+    pub fn new(s: &Set, i: usize, inverse: bool) -> Self {
+        let (size, q) = (s.sizes[i], s.q);
+        let row = if s.number == 0 { 1 } else { 256 };
+        let table = crate::parameters::powers(q, s.roots[i], size);
+        let powers: Vec<u32> = (0..size).map(|j| table[if inverse { (size - j) % size } else { j }] as u32).collect();
+        let row_powers = (0..row).map(|j| powers[j * (size / row)]).collect();
+        Transform { q, size, row, powers, row_powers }
+    }
+
+    /// One row in natural order, by radix-2 passes that need no bit reversal.
+    fn row(&self, x: &mut [u32], y: &mut [u32]) {
+        let q = self.q as u32;
+        let (n, mut stride) = (x.len(), 1);
+        while stride < n {
+            let half = n / 2;
+            for p in 0..half / stride {
+                let w = self.row_powers[p * stride] as u64;
+                for c in 0..stride {
+                    let (a, b) = (x[p * stride + c], x[half + p * stride + c]);
+                    let sum = a + b;
+                    y[2 * p * stride + c] = if sum >= q { sum - q } else { sum };
+                    y[2 * p * stride + stride + c] = ((a + q - b) as u64 * w % self.q) as u32;
+                }
+            }
+            x.copy_from_slice(y);
+            stride *= 2;
+        }
+    }
+
+    /// Column c: the short transform over the column, each sum reduced once.
+    fn column(&self, x: &[u32], c: usize, out: &mut [u32; 13]) {
+        let rows = self.size / self.row;
+        for (r, value) in out.iter_mut().enumerate().take(rows) {
+            let sum: u64 = (0..rows).map(|j| x[j * self.row + c] as u64 * self.powers[self.row * (j * r % rows)] as u64).sum();
+            *value = (sum % self.q) as u32;
+        }
+    }
+
+    /// The transform of a padded vector, in the order of Perm.
+    pub fn forward(&self, input: &[u32]) -> Vec<u32> {
+        let mut x = input.to_vec();
+        x.resize(self.size, 0);
+        let mut column = [0; 13];
+        for c in 0..self.row {
+            self.column(&x, c, &mut column);
+            for r in 0..self.size / self.row {
+                x[r * self.row + c] = (column[r] as u64 * self.powers[r * c] as u64 % self.q) as u32;
+            }
+        }
+        let mut buffer = [0; 256];
+        for row in x.chunks_mut(self.row) {
+            self.row(row, &mut buffer[..row.len()]);
+        }
+        x
+    }
+
+    /// The transform, divided by its size, of a vector in the order of Perm.
+    pub fn scaled(&self, stored: &[u32]) -> Vec<u32> {
+        let mut x = stored.to_vec();
+        let mut buffer = [0; 256];
+        for (r, row) in x.chunks_mut(self.row).enumerate() {
+            self.row(row, &mut buffer[..row.len()]);
+            for (c, value) in row.iter_mut().enumerate() {
+                *value = (*value as u64 * self.powers[r * c] as u64 % self.q) as u32;
+            }
+        }
+        let scale = self.q - (self.q - 1) / self.size as u64;
+        let mut column = [0; 13];
+        for c in 0..self.row {
+            self.column(&x, c, &mut column);
+            for r in 0..self.size / self.row {
+                x[r * self.row + c] = (column[r] as u64 * scale % self.q) as u32;
+            }
+        }
+        x
+    }
+}
+
+/// The place-by-place product of two vectors.
+pub fn pointwise(q: u64, x: &[u32], y: &[u32]) -> Vec<u32> {
+    x.iter().zip(y).map(|(&a, &b)| (a as u64 * b as u64 % q) as u32).collect()
+}
+
+/// Place by place, x plus y.
+pub fn add_into(q: u64, x: &mut [u32], y: &[u32]) {
+    for (a, &b) in x.iter_mut().zip(y) {
+        *a = ((*a as u64 + b as u64) % q) as u32;
+    }
+}
+
+/// The residue of a signed number.
+pub fn residue(q: u64, z: i32) -> u32 {
+    (z as i64).rem_euclid(q as i64) as u32
+}
+
+/// The middle product by its written-out sum.
+pub fn middle_product(q: u64, a: &[u32], b: &[u32], results: usize) -> Vec<u32> {
+    (0..results)
+        .map(|i| {
+            let sum = a.iter().enumerate().fold(0u64, |sum, (j, &x)| (sum + x as u64 * b[a.len() - 1 + i - j] as u64) % q);
+            sum as u32
+        })
+        .collect()
+}
+
+/// 003's Round on the centred residue, for sets 1 to 12; 01's formula for set 0.
+pub fn bit(s: &Set, w: u32) -> u32 {
+    let (w, h) = (w as u64, s.half());
+    let one = if s.number == 0 { (2 * w + h) / (2 * h) % 2 == 1 } else { h <= 2 * w && 2 * w <= 3 * h };
+    one as u32
+}
