@@ -6,4 +6,5 @@ pub mod draws;
 pub mod packing;
 pub mod parameters;
 pub mod scheme;
+pub mod sheet;
 pub mod sponge;

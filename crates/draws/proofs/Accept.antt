@@ -1,0 +1,152 @@
+-- Laws of uniform draws: one candidate, candidates in two parts, how many candidates suffice, and the numbers taken.
+-- Assumes nothing.
+use mathlib.Core.Path.{_≡_, refl, ap}
+use mathlib.Core.Bool.{Bool, true, false, cond}
+use mathlib.Core.List.{List, [], _∷_, _++_}
+use Prim.Native.Nat.{ℕ, zero, suc, _+_, _-_, _*_, _%_, _≤_, _<_}
+use native.Mathlib.Nat.{sub-zero, mod-lt}
+use native.Mathlib.Omega.{arith}
+use borrow.Author.Tests.{lt-ltb, le-ltb, ltb-true}
+use lib.Dec.{ltb}
+use lib.ListN.{length, getD}
+use Rattle.draws.specs.Uniform.{Verdict, take, aside, last, verdict, Drawn, taken, ended, exhausted, put, accept, numbers, after, resume}
+
+-- a candidate below the threshold is taken
+pub verdict-take : (threshold run c : ℕ) → c < threshold → verdict threshold run c ≡ take
+unfolding verdict
+verdict-take threshold run c h = rw (lt-ltb c threshold)
+
+-- another is set aside, where it is not the 128th
+pub verdict-aside : (threshold run c : ℕ) → threshold ≤ c → suc run < 128 → verdict threshold run c ≡ aside
+unfolding verdict
+verdict-aside threshold run c h less = rw (le-ltb c threshold, lt-ltb (suc run) 128)
+
+-- the 128th is the last
+pub verdict-last : (threshold run c : ℕ) → threshold ≤ c → 128 ≤ suc run → verdict threshold run c ≡ last
+unfolding verdict
+verdict-last threshold run c h more = rw (le-ltb c threshold, le-ltb (suc run) 128)
+
+-- a candidate that is set aside and is not the last is not the 128th
+aside-run : (threshold run c : ℕ) → verdict threshold run c ≡ aside → suc run < 128
+unfolding verdict
+aside-run threshold run c e = go (ltb c threshold) (ltb (suc run) 128) refl e
+  where
+    go : (t s : Bool) → ltb (suc run) 128 ≡ s → cond t take (cond s aside last) ≡ aside → suc run < 128
+    go true s l e = let z : _≡_ {A = ℕ} 0 1 = cc in absurd (omega arith)
+    go false true l e = ltb-true _ _ l
+    go false false l e = let z : _≡_ {A = ℕ} 0 1 = cc in absurd (omega arith)
+
+-- a proof by the three verdicts
+pub by-verdict : {P : Type 0} (v : Verdict) → (v ≡ take → P) → (v ≡ aside → P) → (v ≡ last → P) → P
+by-verdict take f g h = f refl
+by-verdict aside f g h = g refl
+by-verdict last f g h = h refl
+
+-- a draw that ended before it had the results wanted, from fewer candidates than always suffice
+pub record Short (wanted used : ℕ) (xs : List ℕ) (run : ℕ) : Type 0 where
+  pub finished : length xs < wanted
+  pub few : used < 128 * wanted
+  pub less : run < 128
+
+-- the results of a draw by its case; used counts its candidates with those set aside in a row before it
+abbrev pub Within : ℕ → ℕ → Drawn → Type 0
+Within wanted used (taken xs) = length xs ≡ wanted
+Within wanted used (ended xs run) = Short wanted used xs run
+Within wanted used (exhausted i) = i < wanted
+
+-- one finished result more
+put-within : (wanted used more x : ℕ) (d : Drawn) → more ≤ used + 128 → Within wanted used d → Within (suc wanted) more (put x d)
+unfolding put
+put-within wanted used more x (taken xs) h w = omega arith
+put-within wanted used more x (ended xs run) h w = omega arith
+put-within wanted used more x (exhausted i) h w = omega arith
+
+-- one residue more is a residue
+put-below : {q : ℕ} (x : ℕ) (d : Drawn) (i : ℕ) → x < q → ((j : ℕ) → getD (numbers d) j 0 < q) → getD (numbers (put x d)) i 0 < q
+unfolding put numbers
+put-below x (taken xs) zero h rest = h
+put-below x (taken xs) (suc i) h rest = rest i
+put-below x (ended xs run) zero h rest = h
+put-below x (ended xs run) (suc i) h rest = rest i
+put-below x (exhausted k) i h rest = rest i
+
+module _ (q threshold : ℕ) where
+  -- no results wanted: no candidate is taken
+  pub accept-none : (run : ℕ) (cs : List ℕ) → accept q threshold 0 run cs ≡ taken []
+  unfolding accept
+  accept-none run cs = refl
+
+  -- results wanted and no candidate
+  pub accept-end : (wanted run : ℕ) → accept q threshold (suc wanted) run [] ≡ ended [] run
+  unfolding accept
+  accept-end wanted run = refl
+
+  module _ (wanted run c : ℕ) (cs : List ℕ) where
+    -- the first candidate is taken
+    pub accept-take : verdict threshold run c ≡ take → accept q threshold (suc wanted) run (c ∷ cs) ≡ put (c % q) (accept q threshold wanted 0 cs)
+    unfolding accept
+    accept-take e = rw (e, accept)
+
+    -- the first candidate is set aside
+    pub accept-aside : verdict threshold run c ≡ aside → accept q threshold (suc wanted) run (c ∷ cs) ≡ accept q threshold (suc wanted) (suc run) cs
+    unfolding accept
+    accept-aside e = rw (e, accept)
+
+    -- the first candidate is the last that may be set aside
+    pub accept-last : verdict threshold run c ≡ last → accept q threshold (suc wanted) run (c ∷ cs) ≡ exhausted 0
+    unfolding accept
+    accept-last e = rw (e, accept)
+
+  -- one finished result more, before or after a draw goes on
+  resume-put : (wanted x : ℕ) (d : Drawn) (cs : List ℕ) → resume q threshold (suc wanted) (put x d) cs ≡ put x (resume q threshold wanted d cs)
+  unfolding put resume after
+  resume-put wanted x (taken xs) cs = refl
+  resume-put wanted x (ended xs run) cs =
+      let e : suc wanted - suc (length xs) ≡ wanted - length xs = omega arith in
+      rw e
+  resume-put wanted x (exhausted i) cs = refl
+
+  -- candidates in two parts: the draw from the first part goes on with the second
+  pub accept-append : (wanted run : ℕ) (cs ds : List ℕ) → accept q threshold wanted run (cs ++ ds) ≡ resume q threshold wanted (accept q threshold wanted run cs) ds
+  unfolding resume after
+  accept-append zero run cs ds = rw (accept-none run cs, accept-none run (cs ++ ds))
+  accept-append (suc wanted) run [] ds = rw (accept-end wanted run, sub-zero)
+  accept-append (suc wanted) run (c ∷ cs) ds =
+      by-verdict (verdict threshold run c)
+      (λ e. rw (accept-take wanted run c cs e, accept-take wanted run c (cs ++ ds) e, resume-put) (ap (put (c % q)) (accept-append wanted 0 cs ds)))
+      (λ e. rw (accept-aside wanted run c cs e, accept-aside wanted run c (cs ++ ds) e) (accept-append (suc wanted) (suc run) cs ds))
+      (λ e. rw (accept-last wanted run c cs e, accept-last wanted run c (cs ++ ds) e))
+
+  -- the draw of some results from some candidates keeps within bounds
+  pub accept-within : (wanted run : ℕ) (cs : List ℕ) → run < 128 → Within wanted (length cs + run) (accept q threshold wanted run cs)
+  accept-within zero run cs h = rw (accept-none run cs)
+  accept-within (suc wanted) run [] h = rw (accept-end wanted run) (record { finished = omega arith; few = omega arith; less = h })
+  accept-within (suc wanted) run (c ∷ cs) h =
+      by-verdict (verdict threshold run c)
+      (λ v. rw (accept-take wanted run c cs v) (put-within wanted (length cs + 0) (suc (length cs) + run) (c % q) (accept q threshold wanted 0 cs) (omega arith) (accept-within wanted 0 cs (omega arith))))
+      (λ v. let e : suc (length cs) + run ≡ length cs + suc run = omega arith in rw (accept-aside wanted run c cs v, e) (accept-within (suc wanted) (suc run) cs (aside-run threshold run c v)))
+      (λ v. rw (accept-last wanted run c cs v) (omega arith))
+
+  -- an accepted draw gives as many numbers as were wanted
+  pub accept-length : (wanted run : ℕ) (cs xs : List ℕ) → run < 128 → accept q threshold wanted run cs ≡ taken xs → length xs ≡ wanted
+  accept-length wanted run cs xs h e = rw e at (accept-within wanted run cs h)
+
+  -- 128 candidates for each result always suffice
+  pub accept-suffices : (wanted run : ℕ) (cs xs : List ℕ) (left : ℕ) → run < 128 → 128 * wanted ≤ length cs + run → accept q threshold wanted run cs ≡ ended xs left → ⊥
+  accept-suffices wanted run cs xs left h enough e = let short : Short wanted (length cs + run) xs left = rw e at (accept-within wanted run cs h) in omega (arith, short .few)
+
+  -- a draw that has its numbers takes no more candidates
+  pub accept-enough : (wanted run : ℕ) (cs ds xs : List ℕ) → accept q threshold wanted run cs ≡ taken xs → accept q threshold wanted run (cs ++ ds) ≡ taken xs
+  unfolding resume
+  accept-enough wanted run cs ds xs e = rw (accept-append wanted run cs ds, e)
+
+  -- each number taken is a residue
+  pub accept-below : (wanted run : ℕ) (cs : List ℕ) (i : ℕ) → 0 < q → getD (numbers (accept q threshold wanted run cs)) i 0 < q
+  unfolding numbers
+  accept-below zero run cs i h = rw (accept-none run cs) h
+  accept-below (suc wanted) run [] i h = rw (accept-end wanted run) h
+  accept-below (suc wanted) run (c ∷ cs) i h =
+      by-verdict (verdict threshold run c)
+      (λ v. rw (accept-take wanted run c cs v) (put-below (c % q) (accept q threshold wanted 0 cs) i (mod-lt c h) (λ j. accept-below wanted 0 cs j h)))
+      (λ v. rw (accept-aside wanted run c cs v) (accept-below (suc wanted) (suc run) cs i h))
+      (λ v. rw (accept-last wanted run c cs v) h)

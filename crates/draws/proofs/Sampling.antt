@@ -1,0 +1,68 @@
+-- One result drawn from bytes: the invariant of the loop over its candidates.
+-- Assumes nothing.
+use mathlib.Core.Path.{_≡_, refl, sym, _∙_}
+use mathlib.Core.List.{List, [], _∷_}
+use Prim.Native.Nat.{ℕ, suc, _+_, _%_, _≤_, _<_}
+use native.Mathlib.Numerals.{add-one}
+use native.Mathlib.Omega.{arith}
+use lib.ListN.{length, drop}
+use Rattle.calls.specs.Region.{region}
+use Rattle.draws.specs.Uniform.{littleEndian, candidates, take, aside, last, verdict, number, refusal, sampleFrom, sampleAt}
+use Rattle.draws.proofs.Candidates.{candidates-none, candidates-first}
+use Rattle.draws.proofs.Accept.{verdict-take, verdict-aside, verdict-last}
+
+module _ (q threshold run position : ℕ) where
+  -- no candidate
+  pub sample-end : sampleFrom q threshold run position [] ≡ refusal 4
+  unfolding sampleFrom
+  sample-end = refl
+
+  module _ (c : ℕ) (cs : List ℕ) where
+    -- the first candidate is taken
+    pub sample-take : verdict threshold run c ≡ take → sampleFrom q threshold run position (c ∷ cs) ≡ number (c % q) (position + 3)
+    unfolding sampleFrom
+    sample-take e = rw (e, sampleFrom)
+
+    -- the first candidate is set aside
+    pub sample-aside : verdict threshold run c ≡ aside → sampleFrom q threshold run position (c ∷ cs) ≡ sampleFrom q threshold (suc run) (position + 3) cs
+    unfolding sampleFrom
+    sample-aside e = rw (e, sampleFrom)
+
+    -- the first candidate is the last that may be set aside
+    pub sample-last : verdict threshold run c ≡ last → sampleFrom q threshold run position (c ∷ cs) ≡ refusal 5
+    unfolding sampleFrom
+    sample-last e = rw (e, sampleFrom)
+
+-- the draw at a position is the draw at a later one, with some candidates set aside between them
+pub record Sampling (bytes : List ℕ) (at q threshold position run : ℕ) : Type 0 where
+  pub same : sampleAt q threshold bytes at ≡ sampleFrom q threshold run position (candidates (drop position bytes))
+  pub less : run < 128
+
+-- before the first candidate
+pub sampling-none : (bytes : List ℕ) (at q threshold : ℕ) → Sampling bytes at q threshold at 0
+unfolding sampleAt
+sampling-none bytes at q threshold = record { same = refl; less = omega arith }
+
+module _ {bytes : List ℕ} {at q threshold position run : ℕ} (s : Sampling bytes at q threshold position run) where
+  -- the bytes end
+  pub sampling-end : length bytes < position + 3 → refusal 4 ≡ sampleAt q threshold bytes at
+  sampling-end h = sym (s .same ∙ rw (candidates-none bytes position h, sample-end))
+
+  module _ {c : ℕ} (h : position + 3 ≤ length bytes) (e : c ≡ littleEndian (region bytes position 3)) where
+    -- the draw begins with the candidate at the position
+    first : sampleAt q threshold bytes at ≡ sampleFrom q threshold run position (c ∷ candidates (drop (position + 3) bytes))
+    first = s .same ∙ rw (candidates-first bytes position h, e)
+
+    -- the candidate is taken
+    pub sampling-take : c < threshold → number (c % q) (position + 3) ≡ sampleAt q threshold bytes at
+    sampling-take l = sym (first ∙ sample-take q threshold run position c _ (verdict-take threshold run c l))
+
+    -- the candidate is set aside
+    pub sampling-aside : threshold ≤ c → (run + 1 ≡ 128 → ⊥) → Sampling bytes at q threshold (position + 3) (run + 1)
+    sampling-aside l n =
+        let less : run + 1 < 128 = omega (arith, s .less) in
+        record { same = first ∙ rw add-one (sample-aside q threshold run position c _ (verdict-aside threshold run c l (omega arith))); less = less }
+
+    -- the candidate is the last that may be set aside
+    pub sampling-last : threshold ≤ c → run + 1 ≡ 128 → refusal 5 ≡ sampleAt q threshold bytes at
+    sampling-last l n = sym (first ∙ sample-last q threshold run position c _ (verdict-last threshold run c l (omega arith)))

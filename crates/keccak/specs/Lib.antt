@@ -1,0 +1,4 @@
+pub mod Lane
+pub mod Keccak
+pub mod Rules
+pub mod Known

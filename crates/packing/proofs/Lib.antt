@@ -1,0 +1,4 @@
+pub mod Digits
+pub mod Position
+pub mod Dropped
+pub mod Message

@@ -1,0 +1,20 @@
+-- `packing::number_at` (003, algorithm 17) meets its contract.
+-- Assumes nothing.
+use mathlib.Core.Path.{refl, sym}
+use native.Mathlib.Omega.{arith}
+use borrow.Author.Needs.{needs}
+use Rattle.maths.proofs.Vector.{at-past}
+use Rattle.packing.proofs.number_at.Statement.{statement}
+use Rattle.packing.proofs.number_at.Tie as tie
+
+cast-result : tie.Need-cast-result
+cast-result c = omega (arith, c .shared-slice-known .given (c .before .before .args .i))
+
+returns : tie.Need-returns
+returns c = (refl, omega (arith, c .shared-slice-known .given (c .before .before .args .i)))
+
+returns-2 : tie.Need-returns-2
+returns-2 c = (sym (at-past (c .before .args .numbers .now) (c .before .args .i) (c .if1 .left)), omega arith)
+
+pub number-at-spec : {M : Type 1} → statement M
+number-at-spec = tie.close (tie.spec (λ c. search needs) (λ c. search needs) cast-result returns returns-2)

@@ -1,0 +1,142 @@
+//! The noise sheet: the noise of each place of a sealing, worked out from the draws, beside the bit sent and the bit read.
+
+use crate::arithmetic::{bit, middle_product, residue};
+use crate::draws::{key_errors, multiplier_bound, refusal, sealing_multipliers, Refusal, Source};
+use crate::packing::message_bits;
+use crate::parameters::{set, Set};
+use crate::scheme::{decrypt, encrypt, key, sealed_numbers, secret};
+use std::fmt::Write as _;
+
+/// One place of a sheet.
+struct Row {
+    place: usize,
+    noise: i64,
+    sent: u32,
+    read: u32,
+}
+
+/// The sum over polynomials of the correlations of multipliers and errors, as whole numbers.
+fn products(s: &Set, multipliers: &[i32], errors: &[i32], place: usize) -> i64 {
+    let polynomials = multipliers.chunks(s.k + 1).zip(errors.chunks(s.d + s.k));
+    polynomials.map(|(r, e)| r.iter().zip(&e[place..]).map(|(&x, &y)| x as i64 * y as i64).sum::<i64>()).sum()
+}
+
+/// The rows of an encryption set.
+fn byte_rows(s: &Set, input: &[u8]) -> Result<Vec<Row>, Refusal> {
+    if input.len() != 97 {
+        return refusal(2, 0);
+    }
+    let (key_seed, rest) = input[1..].split_at(32);
+    let (sealing_seed, message) = rest.split_at(32);
+    let (public_key, secret_key) = key(s, key_seed)?;
+    let ciphertext = encrypt(s, &public_key, message, sealing_seed)?;
+    let read = message_bits(&decrypt(s, &secret_key, &ciphertext)?);
+    let sent = message_bits(message);
+    let mut source: Source = secret(s, &secret_key)?.1;
+    let errors = key_errors(s, &mut source);
+    let multipliers = sealing_multipliers(s, sealing_seed);
+    let (_, c2) = sealed_numbers(s, &public_key, message, sealing_seed)?;
+    Ok((0..s.d)
+        .map(|place| {
+            let dropped = c2[place] as i64 % (1 << s.dropped_bits);
+            Row { place, noise: products(s, &multipliers, &errors, place) - dropped, sent: sent[place], read: read[place] }
+        })
+        .collect())
+}
+
+/// The rows of Bench, whose numbers stand in the input itself.
+fn bench_rows(s: &Set, input: &[u8]) -> Result<Vec<Row>, Refusal> {
+    if input.len() != 14 {
+        return refusal(2, 0);
+    }
+    for (place, &byte) in input.iter().enumerate().skip(1) {
+        let signed = byte as i8 as i32;
+        let fits = match place {
+            1..=6 => (byte as u64) < s.q,
+            7..=9 => signed.abs() <= s.eta as i32,
+            10..=11 => signed != 0 && signed.unsigned_abs() <= multiplier_bound(s, place - 10),
+            _ => byte < 2,
+        };
+        if !fits {
+            return refusal(3, place);
+        }
+    }
+    let numbers = |from: usize, to: usize| -> Vec<u32> { input[from..to].iter().map(|&byte| byte as u32).collect() };
+    let signed = |from: usize, to: usize| -> Vec<i32> { input[from..to].iter().map(|&byte| byte as i8 as i32).collect() };
+    let (a, secret, e, r, sent) = (numbers(1, 3), numbers(3, 7), signed(7, 10), signed(10, 12), numbers(12, 14));
+    let q = s.q;
+    let b: Vec<u32> = middle_product(q, &a, &secret, 3).iter().zip(&e).map(|(&x, &y)| (x + residue(q, y)) % q as u32).collect();
+    let multipliers: Vec<u32> = r.iter().map(|&z| residue(q, z)).collect();
+    let c1 = middle_product(q, &multipliers, &[0, a[0], a[1], 0], 3);
+    let c2: Vec<u32> =
+        middle_product(q, &multipliers, &b, 2).iter().zip(&sent).map(|(&x, &bit)| (x + 8 * bit) % q as u32).collect();
+    let opened = middle_product(q, &c1, &secret, 2);
+    let reversed: Vec<i32> = r.iter().rev().copied().collect();
+    Ok((0..2)
+        .map(|place| {
+            let w = (c2[place] + q as u32 - opened[place]) % q as u32;
+            Row { place, noise: products(s, &reversed, &e, place), sent: sent[place], read: bit(s, w) }
+        })
+        .collect())
+}
+
+/// The sheet of an input, or the line of its refusal.
+pub fn sheet(input: &[u8]) -> String {
+    match rows(input) {
+        Ok((s, rows)) => text(&s, rows),
+        Err(refused) => format!("refused {} {}\n", refused.number, refused.place),
+    }
+}
+
+fn rows(input: &[u8]) -> Result<(Set, Vec<Row>), Refusal> {
+    let Some(&first) = input.first() else {
+        return refusal(2, 0);
+    };
+    match set(first as usize) {
+        Some(s) if s.number == 0 => Ok((s, bench_rows(&s, input)?)),
+        Some(s) if s.number <= 6 => Ok((s, byte_rows(&s, input)?)),
+        _ => refusal(1, 0),
+    }
+}
+
+fn text(s: &Set, mut rows: Vec<Row>) -> String {
+    rows.sort_by_key(|row| (-row.noise.abs(), row.place));
+    let mut sheet = String::from("place noise sent read\n");
+    for row in rows.iter().take(10) {
+        writeln!(sheet, "{} {} {} {}", row.place, row.noise, row.sent, row.read).unwrap();
+    }
+    let ceiling = s.multipliers() as u64 * multiplier_bound(s, s.multipliers()) as u64 * s.eta as u64;
+    writeln!(sheet, "ceiling {ceiling} half {}", s.half()).unwrap();
+    sheet
+}
+
+#[cfg(test)]
+mod tests {
+    use super::sheet;
+
+    #[test]
+    fn the_bench_sheet() {
+        let input = [0, 3, 5, 1, 2, 3, 4, 1, 0, 255, 1, 254, 1, 0];
+        assert_eq!(sheet(&input), "place noise sent read\n0 -2 1 1\n1 -1 0 0\nceiling 4 half 8\n");
+    }
+
+    #[test]
+    fn refusals() {
+        assert_eq!(sheet(&[]), "refused 2 0\n");
+        assert_eq!(sheet(&[7]), "refused 1 0\n");
+        assert_eq!(sheet(&[0; 13]), "refused 2 0\n");
+        assert_eq!(sheet(&[0, 3, 17, 1, 2, 3, 4, 1, 0, 255, 1, 254, 1, 0]), "refused 3 2\n");
+        assert_eq!(sheet(&[0, 3, 5, 1, 2, 3, 4, 1, 0, 255, 0, 254, 1, 0]), "refused 3 10\n");
+    }
+
+    /// The sheets of an independent model: an input in hexadecimal, then the sheet, a blank line between two.
+    #[test]
+    fn known_sheets() {
+        let text = include_str!("../vectors/sheets.txt");
+        for known in text.trim_end().split("\n\n") {
+            let lines: Vec<&str> = known.lines().filter(|line| !line.starts_with('#')).collect();
+            let input: Vec<u8> = (0..lines[0].len() / 2).map(|i| u8::from_str_radix(&lines[0][2 * i..2 * i + 2], 16).unwrap()).collect();
+            assert_eq!(sheet(&input), lines[1..].join("\n") + "\n");
+        }
+    }
+}
