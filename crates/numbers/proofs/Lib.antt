@@ -1,0 +1,6 @@
+pub mod PlaceSum
+pub mod Chained
+pub mod OpenCall
+pub mod MiddleAnswer
+pub mod BitLaws
+pub mod ReadingLaws

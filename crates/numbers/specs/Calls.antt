@@ -1,0 +1,87 @@
+-- The open calls on numbers: what each answers and leaves (01, How each call answers).
+-- Assumes nothing.
+use mathlib.Core.Bool.{Bool, not, _&&_}
+use mathlib.Core.List.{List, [], _∷_, _++_}
+use Prim.Native.Nat.{ℕ, _+_, _-_, _*_, _^_}
+use lib.Dec.{leb, ltb, eqb}
+use lib.IntN.{ℤ, natAbs}
+use lib.ListN.{length}
+use Rattle.maths.specs.Product.{middleProduct}
+use Rattle.calls.specs.Outcome.{Outcome, accepted, refuse, leaves}
+use Rattle.calls.specs.Checks.{allOf, refuseFirst, below}
+use Rattle.sets.specs.declared.Parameters.{Parameters}
+use Rattle.sets.specs.Table.{setOf}
+use Rattle.numbers.specs.Scheme.{key, firstPart, secondPart, reading}
+use mathlib.Core.Bool.{cond}
+
+-- the lengths of a middle product of a and b with d results
+abbrev pub middleShape : ℕ → ℕ → ℕ → List Bool
+middleShape a b d = leb 1 a ∷ leb 1 d ∷ leb a 4096 ∷ leb b 4096 ∷ leb d 4096 ∷ eqb b (a + d - 1) ∷ []
+
+unfoldable pub middleAnswer : ℕ → List ℕ → List ℕ → ℕ → Outcome
+middleAnswer set a b d =
+    refuse (ltb 12 set) 1 0
+    (refuse (not (allOf (middleShape (length a) (length b) d))) 6 0
+    (refuseFirst (below (setOf set .q)) 0 0 (a ++ b) accepted))
+
+unfoldable pub middleLeft : ℕ → List ℕ → List ℕ → List ℕ → List ℕ
+middleLeft set a b out = leaves (middleAnswer set a b (length out)) (middleProduct (setOf set .q) a b (length out)) out
+
+-- an error of size at most η, at any position
+abbrev pub isError : ℕ → ℕ → ℤ → Bool
+isError eta position z = leb (natAbs z) eta
+
+-- the largest size B/2 of a multiplier at a position
+unfoldable pub multiplierBound : Parameters → ℕ → ℕ
+multiplierBound p position = 2 ^ cond (ltb position (p .ndec1)) (p .b1) (p .b2)
+
+-- a multiplier: not 0, and of size at most B/2 at its position
+abbrev pub isMultiplier : Parameters → ℕ → ℤ → Bool
+isMultiplier p position z = leb 1 (natAbs z) && leb (natAbs z) (multiplierBound p position)
+
+-- key: a (t · n), s (n + d + k − 1), e (t · (d + k)), and b as long as e
+abbrev pub keyShape : Parameters → ℕ → ℕ → ℕ → ℕ → List Bool
+keyShape p a s e b =
+    eqb a (p .t * p .n) ∷ eqb s (p .n + p .d + p .k - 1) ∷ eqb e (p .t * (p .d + p .k)) ∷ eqb b (p .t * (p .d + p .k)) ∷ []
+
+unfoldable pub keyAnswer : ℕ → List ℕ → List ℕ → List ℤ → ℕ → Outcome
+keyAnswer set a s e b =
+    refuse (ltb 12 set) 1 0
+    (refuse (not (allOf (keyShape (setOf set) (length a) (length s) (length e) b))) 2 0
+    (refuseFirst (below (setOf set .q)) 0 0 (a ++ s)
+    (refuseFirst (isError (setOf set .eta)) 0 (length a + length s) e accepted)))
+
+unfoldable pub keyLeft : ℕ → List ℕ → List ℕ → List ℤ → List ℕ → List ℕ
+keyLeft set a s e b = leaves (keyAnswer set a s e (length b)) (key (setOf set) a s e) b
+
+-- sealing: a, b, r (t · (k + 1)), message (d), c1 (n + k), c2 (d)
+abbrev pub sealingShape : Parameters → ℕ → ℕ → ℕ → ℕ → ℕ → ℕ → List Bool
+sealingShape p a b r m c1 c2 =
+    eqb a (p .t * p .n) ∷ eqb b (p .t * (p .d + p .k)) ∷ eqb r (p .t * (p .k + 1)) ∷ eqb m (p .d) ∷ eqb c1 (p .n + p .k) ∷ eqb c2 (p .d) ∷ []
+
+unfoldable pub sealingAnswer : ℕ → List ℕ → List ℕ → List ℤ → List ℕ → ℕ → ℕ → Outcome
+sealingAnswer set a b r m c1 c2 =
+    refuse (ltb 12 set) 1 0
+    (refuse (not (allOf (sealingShape (setOf set) (length a) (length b) (length r) (length m) c1 c2))) 2 0
+    (refuseFirst (below (setOf set .q)) 0 0 (a ++ b)
+    (refuseFirst (isMultiplier (setOf set)) 0 (length a + length b) r
+    (refuseFirst (below 2) 0 (length a + length b + length r) m accepted))))
+
+unfoldable pub firstPartLeft : ℕ → List ℕ → List ℕ → List ℤ → List ℕ → List ℕ → ℕ → List ℕ
+firstPartLeft set a b r m c1 c2 = leaves (sealingAnswer set a b r m (length c1) c2) (firstPart (setOf set) a r) c1
+
+unfoldable pub secondPartLeft : ℕ → List ℕ → List ℕ → List ℤ → List ℕ → ℕ → List ℕ → List ℕ
+secondPartLeft set a b r m c1 c2 = leaves (sealingAnswer set a b r m c1 (length c2)) (secondPart (setOf set) b r m) c2
+
+-- reading: c1, c2, s, and as many bits as c2 has numbers
+abbrev pub readingShape : Parameters → ℕ → ℕ → ℕ → ℕ → List Bool
+readingShape p c1 c2 s bits = eqb c1 (p .n + p .k) ∷ eqb c2 (p .d) ∷ eqb s (p .n + p .d + p .k - 1) ∷ eqb bits (p .d) ∷ []
+
+unfoldable pub readingAnswer : ℕ → List ℕ → List ℕ → List ℕ → ℕ → Outcome
+readingAnswer set c1 c2 s bits =
+    refuse (ltb 12 set) 1 0
+    (refuse (not (allOf (readingShape (setOf set) (length c1) (length c2) (length s) bits))) 2 0
+    (refuseFirst (below (setOf set .q)) 0 0 (c1 ++ c2 ++ s) accepted))
+
+unfoldable pub readingLeft : ℕ → List ℕ → List ℕ → List ℕ → List ℕ → List ℕ
+readingLeft set c1 c2 s bits = leaves (readingAnswer set c1 c2 s (length bits)) (reading set (setOf set) c1 c2 s) bits

@@ -1,0 +1,16 @@
+-- The noise of a sealing at place j, an exact whole number (01, Noise): the sum over i of the middle product of r_i and e_i, signs kept.
+-- Assumes nothing.
+use mathlib.Core.List.{List}
+use Prim.Native.Nat.{ℕ, suc, _+_, _-_}
+use lib.IntN.{ℤ, pos, _*ℤ_}
+use lib.ListN.{getD}
+use Rattle.maths.specs.Integer.{sumℤ}
+use Rattle.sets.specs.declared.Parameters.{Parameters}
+use Rattle.numbers.specs.Scheme.{vector}
+
+-- the coefficient at place l of the product of two polynomials of whole numbers
+unfoldable pub productℤ : List ℤ → List ℤ → ℕ → ℤ
+productℤ x y l = sumℤ (suc l) (λ j. getD x j (pos 0) *ℤ getD y (l - j) (pos 0))
+
+unfoldable pub noise : Parameters → List ℤ → List ℤ → ℕ → ℤ
+noise p e r j = sumℤ (p .t) (λ i. productℤ (vector (p .k + 1) r i) (vector (p .d + p .k) e i) (p .k + j))

@@ -1,0 +1,5 @@
+pub mod Bytes
+pub mod Absorbing
+pub mod Squeezing
+pub mod Encoding
+pub mod Answering

@@ -1,0 +1,5 @@
+pub mod Sponge
+pub mod Kmac
+pub mod Absorbed
+pub mod Answers
+pub mod Known
