@@ -3,6 +3,7 @@
 
 pub mod arithmetic;
 pub mod draws;
+pub mod expected;
 pub mod packing;
 pub mod parameters;
 pub mod scheme;

@@ -9,7 +9,8 @@ use native.Mathlib.Omega.{arith}
 use lib.ListN.{length, getD, drop, length-drop}
 use lib.Seq.{drop-cons, drop-drop, drop-nil, getD-drop}
 use Rattle.calls.specs.Region.{region}
-use Rattle.draws.specs.Uniform.{littleEndian, candidates}
+use Rattle.maths.specs.Bytes.{littleEndian}
+use Rattle.draws.specs.Uniform.{candidates}
 
 -- the number of no bytes
 little-none : (bytes : List ℕ) (position : ℕ) → littleEndian (region bytes position 0) ≡ 0

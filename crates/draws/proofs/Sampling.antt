@@ -7,7 +7,8 @@ use native.Mathlib.Numerals.{add-one}
 use native.Mathlib.Omega.{arith}
 use lib.ListN.{length, drop}
 use Rattle.calls.specs.Region.{region}
-use Rattle.draws.specs.Uniform.{littleEndian, candidates, take, aside, last, verdict, number, refusal, sampleFrom, sampleAt}
+use Rattle.maths.specs.Bytes.{littleEndian}
+use Rattle.draws.specs.Uniform.{candidates, take, aside, last, verdict, number, refusal, sampleFrom, sampleAt}
 use Rattle.draws.proofs.Candidates.{candidates-none, candidates-first}
 use Rattle.draws.proofs.Accept.{verdict-take, verdict-aside, verdict-last}
 

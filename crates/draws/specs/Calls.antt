@@ -13,7 +13,8 @@ use Rattle.calls.specs.Region.{region}
 use Rattle.sets.specs.declared.Parameters.{Parameters}
 use Rattle.sets.specs.Table.{table, setOf}
 use Rattle.sets.specs.Derived.{multiplierCount, multiplierBytes}
-use Rattle.draws.specs.Uniform.{littleEndian, candidates, verdict, put, Drawn, taken, ended, exhausted, accept, numbers}
+use Rattle.maths.specs.Bytes.{littleEndian}
+use Rattle.draws.specs.Uniform.{candidates, verdict, put, Drawn, taken, ended, exhausted, accept, numbers}
 use Rattle.draws.specs.Small.{ones, errorOf, errorAt, multiplierOf, multiplierBits, signBit, multiplierAt, signsAt}
 
 -- the first checks of each draw: 1 when the set is not 1 to 12, 2 when more than 4,096 results are wanted

@@ -11,7 +11,7 @@ use Rattle.calls.specs.Region.{region}
 use Rattle.sets.specs.declared.Parameters.{Parameters}
 use Rattle.sets.specs.Table.{table, setOf}
 use Rattle.sets.specs.Derived.{multiplierCount, multiplierBytes}
-use Rattle.draws.specs.Uniform.{littleEndian}
+use Rattle.maths.specs.Bytes.{littleEndian}
 
 -- how many of the low bits of a number are 1
 unfoldable pub ones : ℕ → ℕ → ℕ

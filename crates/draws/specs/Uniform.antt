@@ -6,13 +6,9 @@ use mathlib.Core.List.{List, [], _∷_, _++_}
 use Prim.Native.Nat.{ℕ, zero, suc, _+_, _-_, _*_, _%_}
 use lib.Dec.{ltb}
 use lib.ListN.{length, drop, replicate}
+use Rattle.maths.specs.Bytes.{littleEndian}
 use Rattle.draws.specs.declared.Draw.{Draw}
 use Rattle.draws.specs.declared.Draw.the-variants.{Number, Refused}
-
--- the number that bytes stand for, least significant first
-unfoldable pub littleEndian : List ℕ → ℕ
-littleEndian [] = 0
-littleEndian (b ∷ bytes) = b + 256 * littleEndian bytes
 
 -- candidate j is the number of bytes 3j, 3j + 1 and 3j + 2; one or two bytes at the end are no candidate
 unfoldable pub candidates : List ℕ → List ℕ
@@ -100,10 +96,6 @@ sampleFrom q threshold run position (c ∷ cs) =
 -- one result from the bytes from a position on
 unfoldable pub sampleAt : ℕ → ℕ → List ℕ → ℕ → Sample
 sampleAt q threshold bytes position = sampleFrom q threshold 0 position (candidates (drop position bytes))
-
-littleEndian-example : littleEndian (1 ∷ 2 ∷ 3 ∷ []) ≡ 197121
-unfolding littleEndian
-littleEndian-example = refl
 
 -- of seven bytes the last is no candidate
 candidates-example : candidates (1 ∷ 2 ∷ 3 ∷ 255 ∷ 255 ∷ 255 ∷ 9 ∷ []) ≡ 197121 ∷ 16777215 ∷ []

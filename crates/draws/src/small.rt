@@ -8,7 +8,7 @@ ghost use lib.ListN.{length};
 ghost use Rattle.calls.specs.Region.{region};
 ghost use Rattle.sets.specs.Rules.{Rules, ByteRules};
 ghost use Rattle.sets.specs.Derived.{multiplierCount};
-ghost use Rattle.draws.specs.Uniform.{littleEndian};
+ghost use Rattle.maths.specs.Bytes.{littleEndian};
 ghost use Rattle.draws.specs.Small.{errorOf, errorAt, multiplierOf, multiplierBits, signsAt, signBit, multiplierAt};
 ghost use Rattle.draws.specs.Calls.{inTurn, lent, lentResults};
 

@@ -6,7 +6,8 @@ ghost use Prim.Native.Nat.{_+_, _≤_, _<_};
 ghost use lib.ListN.{length};
 ghost use Rattle.calls.specs.Region.{region};
 ghost use Rattle.calls.specs.Outcome.{outcome, accepted};
-ghost use Rattle.draws.specs.Uniform.{littleEndian, candidates, accept, numbers, sample, refusalOf, sampleAt};
+ghost use Rattle.maths.specs.Bytes.{littleEndian};
+ghost use Rattle.draws.specs.Uniform.{candidates, accept, numbers, sample, refusalOf, sampleAt};
 ghost use Rattle.draws.specs.Calls.{drawnAnswer};
 
 // A byte as a larger number.

@@ -3,7 +3,8 @@
 -- Assumes nothing.
 use mathlib.Core.List.{List, [], _∷_}
 use Prim.Native.Nat.{ℕ, zero, suc, _+_, _*_, _%_}
-use Rattle.keccak.specs.Lane.{_⊕_, _·_, complement, rotl, five, at, lane, state, put}
+use Rattle.maths.specs.Vector.{at}
+use Rattle.keccak.specs.Lane.{_⊕_, _·_, complement, rotl, five, lane, state, put}
 
 -- algorithm 1, step 1: the parities of the five columns
 unfoldable pub C : List (List ℕ) → List ℕ

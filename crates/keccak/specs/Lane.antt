@@ -4,6 +4,7 @@ use mathlib.Core.List.{List, [], _∷_}
 use Prim.Native.Nat.{ℕ, _*_, _/_, _%_, _-_, _^_}
 use lib.Bits.{bitXor, bitAnd, bitOr}
 use lib.ListN.{getD, set}
+use Rattle.maths.specs.Vector.{at}
 
 infixl 65 _⊕_
 infixl 70 _·_
@@ -26,10 +27,6 @@ rotl n a = bitOr (a * 2 ^ n % 2 ^ 64) (a / 2 ^ (64 - n))
 -- five things by formula
 abbrev pub five {ℓ} : {T : Type ℓ} → (ℕ → T) → List T
 five f = f 0 ∷ f 1 ∷ f 2 ∷ f 3 ∷ f 4 ∷ []
-
--- lane x of a row
-abbrev pub at : List ℕ → ℕ → ℕ
-at row x = getD row x 0
 
 -- the lane A[x, y] of a state
 abbrev pub lane : List (List ℕ) → ℕ → ℕ → ℕ

@@ -4,7 +4,8 @@ use mathlib.Core.Path.{_≡_, refl}
 use mathlib.Core.List.{List, [], _∷_, _++_}
 use Prim.Native.Nat.{ℕ, zero, suc, _+_, _*_, _/_, _%_, _-_, _^_}
 use lib.ListN.{take, set}
-use Rattle.keccak.specs.Lane.{_⊕_, at, state, put}
+use Rattle.maths.specs.Vector.{at}
+use Rattle.keccak.specs.Lane.{_⊕_, state, put}
 use Rattle.keccak.specs.Keccak.{offsets, roundConstants}
 
 -- algorithm 2, steps 2 and 3b: the lane (x, y) that the walk is at after t steps

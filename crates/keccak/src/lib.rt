@@ -2,7 +2,8 @@
 ghost use mathlib.Core.Path.{_≡_};
 ghost use mathlib.Core.List.{[], _∷_};
 ghost use Prim.Native.Nat.{_+_, _*_, _%_, _<_};
-ghost use Rattle.keccak.specs.Lane.{_⊕_, _·_, complement, rotl, five, at, lane};
+ghost use Rattle.maths.specs.Vector.{at};
+ghost use Rattle.keccak.specs.Lane.{_⊕_, _·_, complement, rotl, five, lane};
 ghost use Rattle.keccak.specs.Keccak.{C, D, θ, ρ, π, χ, ι, keccakF};
 
 // The constant that each round adds to the lane A[0, 0].

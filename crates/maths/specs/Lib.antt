@@ -1,4 +1,5 @@
 pub mod Vector
+pub mod Bytes
 pub mod Sum
 pub mod Congruence
 pub mod Product

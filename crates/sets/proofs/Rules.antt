@@ -14,7 +14,7 @@ use Rattle.calls.specs.Checks.{allOf}
 use Rattle.calls.proofs.Checks.{Each}
 use Rattle.sets.specs.declared.Parameters.{Parameters}
 use Rattle.sets.specs.Table.{none, table, setOf}
-use Rattle.sets.specs.Derived.{halfModulus, multiplierCount, multiplierBytes, packedBytes, publicKeyBytes, sealedBytes}
+use Rattle.sets.specs.Derived.{halfModulus, multiplierCount, multiplierBytes, multiplierDrawBytes, errorDrawBytes, packedBytes, publicKeyBytes, sealedBytes}
 use Rattle.sets.specs.Rules.{Rules, ByteRules}
 use Rattle.sets.proofs.Tested.{passed, at-each}
 
@@ -77,12 +77,14 @@ byteTests p =
     eqb ((p .k + 1) / 8 * 8) (p .k + 1) ∷
     eqb (p .bytpcs / 3 * 3) (p .bytpcs) ∷
     eqb (p .bytpca / 3 * 3) (p .bytpca) ∷
-    leb 3 (p .bytpcs) ∷
-    leb 3 (p .bytpca) ∷
+    leb 384 (p .bytpcs) ∷
+    leb 384 (p .bytpca) ∷
     leb (p .bytpcs) 10158 ∷
     leb (p .bytpca) 6300 ∷
     leb 1 (multiplierBytes p) ∷
-    leb (multiplierBytes p) 2 ∷ []
+    leb (multiplierBytes p) 2 ∷
+    leb (errorDrawBytes p) 10240 ∷
+    leb (multiplierDrawBytes p) 15232 ∷ []
 
 prime-true : (q : ℕ) → isPrime q ≡ true → Prime q
 prime-true q e = prime q (subst T (sym e) tt)
@@ -100,7 +102,7 @@ unfolding passed allOf table isPrime noDivisorFrom halfModulus multiplierCount p
 table-passed = refl
 
 table-passed-bytes : passed byteTests (drop 1 table) ≡ true
-unfolding passed allOf table halfModulus multiplierBytes
+unfolding passed allOf table halfModulus multiplierCount multiplierBytes multiplierDrawBytes errorDrawBytes
 table-passed-bytes = refl
 
 -- every set from 0 to 12 keeps the rules

@@ -4,7 +4,7 @@ use mathlib.Core.Path.{_≡_}
 use Prim.Native.Nat.{ℕ, _+_, _-_, _*_, _/_, _%_, _^_, _≤_, _<_}
 use Rattle.maths.specs.Prime.{Prime}
 use Rattle.sets.specs.declared.Parameters.{Parameters}
-use Rattle.sets.specs.Derived.{halfModulus, multiplierCount, multiplierBytes, publicKeyBytes, sealedBytes}
+use Rattle.sets.specs.Derived.{halfModulus, multiplierCount, multiplierBytes, multiplierDrawBytes, errorDrawBytes, publicKeyBytes, sealedBytes}
 
 -- what holds for sets 0 to 12
 pub record Rules (p : Parameters) : Type 0 where
@@ -69,13 +69,16 @@ pub record ByteRules (p : Parameters) : Type 0 where
   pub four-bits : p .eta ≡ 4
   -- a number of c2 keeps one byte
   pub kept-byte : p .width ≡ p .cmp + 8
-  -- sign bits fill bytes, and blocks of a uniform draw hold whole candidates
+  -- sign bits fill bytes; a block of a uniform draw holds whole candidates, enough of them to decide one result
   pub signs : (p .k + 1) / 8 * 8 ≡ p .k + 1
   pub whole-bytpcs : p .bytpcs / 3 * 3 ≡ p .bytpcs
   pub whole-bytpca : p .bytpca / 3 * 3 ≡ p .bytpca
-  pub some-bytpcs : 3 ≤ p .bytpcs
-  pub some-bytpca : 3 ≤ p .bytpca
+  pub some-bytpcs : 384 ≤ p .bytpcs
+  pub some-bytpca : 384 ≤ p .bytpca
   pub most-bytpcs : p .bytpcs ≤ 10158
   pub most-bytpca : p .bytpca ≤ 6300
   pub some-size : 1 ≤ multiplierBytes p
   pub most-size : multiplierBytes p ≤ 2
+  -- what one draw of errors and one of multipliers reads
+  pub most-error-bytes : errorDrawBytes p ≤ 10240
+  pub most-multiplier-bytes : multiplierDrawBytes p ≤ 15232

@@ -10,7 +10,8 @@ use lib.Seq.{drop-cons}
 use Rattle.calls.specs.Region.{over}
 use Rattle.calls.proofs.Region.{over-append, over-length, over-whole}
 use Rattle.keccak.specs.Lane.{lane}
-use Rattle.sponge.specs.Sponge.{littleEndian, bytesOf, laneOf, lanes}
+use Rattle.maths.specs.Bytes.{littleEndian, bytesOf}
+use Rattle.sponge.specs.Sponge.{laneOf, lanes}
 
 -- the first byte and those after it
 first-byte : (xs : List ℕ) (n j k : ℕ) → j < length xs → k ≡ j + 1 → littleEndian (take (suc n) (drop j xs)) ≡ getD xs j 0 + 256 * littleEndian (take n (drop k xs))

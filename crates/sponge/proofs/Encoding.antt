@@ -9,42 +9,42 @@ use lib.ListN.{length, replicate, length-append, length-replicate}
 use Rattle.calls.specs.Region.{over}
 use Rattle.keccak.specs.Keccak.{keccakF}
 use Rattle.sponge.specs.Sponge.{mixed, sponge}
-use Rattle.sponge.specs.Kmac.{digits, leftEncode, rightEncode, encodeString, fillUp, bytepad, cshake256, name, kmacOf}
+use Rattle.sponge.specs.Kmac.{base256, leftEncode, rightEncode, encodeString, fillUp, bytepad, cshake256, name, kmacOf}
 use Rattle.sponge.specs.Absorbed.{Ready, Fed}
 use Rattle.sponge.proofs.Absorbing.{fed-none, fed-then, fed-full}
 
 -- the only digit
-digits-last : (n x : ℕ) → x < 256 → digits (suc n) x ≡ x ∷ []
-unfolding digits
+digits-last : (n x : ℕ) → x < 256 → base256 (suc n) x ≡ x ∷ []
+unfolding base256
 digits-last n x h = rw (lt-ltb x 256 h)
 
 -- the digits in front, then the lowest
-digits-more : (n x : ℕ) → 256 ≤ x → digits (suc n) x ≡ digits n (x / 256) ++ ((x % 256) ∷ [])
-unfolding digits
+digits-more : (n x : ℕ) → 256 ≤ x → base256 (suc n) x ≡ base256 n (x / 256) ++ ((x % 256) ∷ [])
+unfolding base256
 digits-more n x h = rw (le-ltb x 256 h)
 
 -- a number of one digit
-pub digits-one : (x : ℕ) → x < 256 → digits 255 x ≡ x ∷ []
+pub digits-one : (x : ℕ) → x < 256 → base256 255 x ≡ x ∷ []
 digits-one x h = digits-last 254 x h
 
 -- a number of two digits
-pub digits-two : (x : ℕ) → 256 ≤ x → x / 256 < 256 → digits 255 x ≡ (x / 256) ∷ (x % 256) ∷ []
+pub digits-two : (x : ℕ) → 256 ≤ x → x / 256 < 256 → base256 255 x ≡ (x / 256) ∷ (x % 256) ∷ []
 digits-two x h l = digits-more 254 x h ∙ ap (λ (d : List ℕ). d ++ ((x % 256) ∷ [])) (digits-last 253 (x / 256) l)
 
 -- a number of three digits
-pub digits-three : (x : ℕ) → 256 ≤ x / 256 → x / 256 / 256 < 256 → digits 255 x ≡ (x / 256 / 256) ∷ (x / 256 % 256) ∷ (x % 256) ∷ []
+pub digits-three : (x : ℕ) → 256 ≤ x / 256 → x / 256 / 256 < 256 → base256 255 x ≡ (x / 256 / 256) ∷ (x / 256 % 256) ∷ (x % 256) ∷ []
 digits-three x h l =
     digits-more 254 x (omega arith)
     ∙ ap (λ (d : List ℕ). d ++ ((x % 256) ∷ []))
     (digits-more 253 (x / 256) h ∙ ap (λ (d : List ℕ). d ++ ((x / 256 % 256) ∷ [])) (digits-last 252 (x / 256 / 256) l))
 
 -- left_encode of a number whose digits are known
-pub left-is : (x : ℕ) (d : List ℕ) → digits 255 x ≡ d → length d ∷ d ≡ leftEncode x
+pub left-is : (x : ℕ) (d : List ℕ) → base256 255 x ≡ d → length d ∷ d ≡ leftEncode x
 unfolding leftEncode
 left-is x d e = rw e
 
 -- right_encode of a number whose digits are known
-pub right-is : (x : ℕ) (d : List ℕ) → digits 255 x ≡ d → d ++ (length d ∷ []) ≡ rightEncode x
+pub right-is : (x : ℕ) (d : List ℕ) → base256 255 x ≡ d → d ++ (length d ∷ []) ≡ rightEncode x
 unfolding rightEncode
 right-is x d e = rw e
 
@@ -85,7 +85,7 @@ padded-place x at e = let z = filled-place (leftEncode 136 ++ x) in omega arith
 
 -- encode_string of the function's name
 name-encoded : encodeString name ≡ 1 ∷ 32 ∷ 0x4b ∷ 0x4d ∷ 0x41 ∷ 0x43 ∷ []
-unfolding encodeString leftEncode digits name
+unfolding encodeString leftEncode base256 name
 name-encoded = refl
 
 -- the parts one after the other

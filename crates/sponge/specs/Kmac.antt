@@ -7,18 +7,18 @@ use lib.Dec.{ltb}
 use lib.ListN.{length, replicate}
 use Rattle.sponge.specs.Sponge.{sponge}
 
--- section 2.3.1, steps 1 and 2: the base-256 digits of x, the highest first, with no zero in front of them; at most n digits
-unfoldable pub digits : ℕ → ℕ → List ℕ
-digits zero x = []
-digits (suc n) x = cond (ltb x 256) (x ∷ []) (digits n (x / 256) ++ ((x % 256) ∷ []))
+-- section 2.3.1, steps 1 and 2: the base-256 digits of x, the highest first, with no zero in front of them; at most n base256
+unfoldable pub base256 : ℕ → ℕ → List ℕ
+base256 zero x = []
+base256 (suc n) x = cond (ltb x 256) (x ∷ []) (base256 n (x / 256) ++ ((x % 256) ∷ []))
 
 -- section 2.3.1: left_encode, for x below 2 ^ 2040
 unfoldable pub leftEncode : ℕ → List ℕ
-leftEncode x = length (digits 255 x) ∷ digits 255 x
+leftEncode x = length (base256 255 x) ∷ base256 255 x
 
 -- section 2.3.1: right_encode, for x below 2 ^ 2040
 unfoldable pub rightEncode : ℕ → List ℕ
-rightEncode x = digits 255 x ++ (length (digits 255 x) ∷ [])
+rightEncode x = base256 255 x ++ (length (base256 255 x) ∷ [])
 
 -- section 2.3.2: encode_string, with the string's length in bits
 unfoldable pub encodeString : List ℕ → List ℕ

@@ -6,8 +6,9 @@ use Prim.Native.Nat.{ℕ}
 use Rattle.calls.specs.Region.{region}
 use Rattle.keccak.specs.Lane.{rotl}
 use Rattle.keccak.specs.Keccak.{C, D, θ, offsets, ρ, π, χ, roundConstants, RC, ι, Rnd, rounds, keccakF}
-use Rattle.sponge.specs.Sponge.{littleEndian, bytesOf, laneOf, mixed, absorbed, lanes, permuted, squeezed, padding, padded, sponge, shake256}
-use Rattle.sponge.specs.Kmac.{digits, leftEncode, rightEncode, encodeString, fillUp, bytepad, cshake256, name, kmacOf, kmac256, kmacxof256}
+use Rattle.maths.specs.Bytes.{littleEndian, bytesOf}
+use Rattle.sponge.specs.Sponge.{laneOf, mixed, absorbed, lanes, permuted, squeezed, padding, padded, sponge, shake256}
+use Rattle.sponge.specs.Kmac.{base256, leftEncode, rightEncode, encodeString, fillUp, bytepad, cshake256, name, kmacOf, kmac256, kmacxof256}
 
 -- the first 32 bytes of SHAKE256 of the empty message
 pub shake256-empty : shake256 [] 32 ≡
@@ -38,7 +39,7 @@ pub kmac256-sample : kmac256 sampleKey (0 ∷ 1 ∷ 2 ∷ 3 ∷ []) sampleCustom
     ∷ 0xf6 ∷ 0x9d ∷ 0x4c ∷ 0xc3 ∷ 0xde ∷ 0x9d ∷ 0x10 ∷ 0x4a ∷ 0x35 ∷ 0x16 ∷ 0x89 ∷ 0xf2 ∷ 0x7c ∷ 0xf6 ∷ 0xf5 ∷ 0x95
     ∷ 0x1f ∷ 0x01 ∷ 0x03 ∷ 0xf3 ∷ 0x3f ∷ 0x4f ∷ 0x24 ∷ 0x87 ∷ 0x10 ∷ 0x24 ∷ 0xd9 ∷ 0xc2 ∷ 0x77 ∷ 0x73 ∷ 0xa8 ∷ 0xdd
     ∷ []
-unfolding rotl C D θ offsets ρ π χ roundConstants RC ι Rnd rounds keccakF region littleEndian bytesOf laneOf mixed absorbed lanes permuted squeezed padding padded sponge digits leftEncode rightEncode encodeString fillUp bytepad cshake256 name kmacOf kmac256
+unfolding rotl C D θ offsets ρ π χ roundConstants RC ι Rnd rounds keccakF region littleEndian bytesOf laneOf mixed absorbed lanes permuted squeezed padding padded sponge base256 leftEncode rightEncode encodeString fillUp bytepad cshake256 name kmacOf kmac256
 kmac256-sample = refl
 
 -- sample 4 of KMACXOF256: 64 bytes
@@ -48,5 +49,5 @@ pub kmacxof256-sample : kmacxof256 sampleKey (0 ∷ 1 ∷ 2 ∷ 3 ∷ []) sample
     ∷ 0x6f ∷ 0xaa ∷ 0x7a ∷ 0xf6 ∷ 0x34 ∷ 0xa0 ∷ 0xbf ∷ 0x8f ∷ 0xf6 ∷ 0xdf ∷ 0x39 ∷ 0x37 ∷ 0x4f ∷ 0xa0 ∷ 0x0f ∷ 0xad
     ∷ 0x9a ∷ 0x39 ∷ 0xe3 ∷ 0x22 ∷ 0xa7 ∷ 0xc9 ∷ 0x20 ∷ 0x65 ∷ 0xa6 ∷ 0x4e ∷ 0xb1 ∷ 0xfb ∷ 0x08 ∷ 0x01 ∷ 0xeb ∷ 0x2b
     ∷ []
-unfolding rotl C D θ offsets ρ π χ roundConstants RC ι Rnd rounds keccakF region littleEndian bytesOf laneOf mixed absorbed lanes permuted squeezed padding padded sponge digits leftEncode rightEncode encodeString fillUp bytepad cshake256 name kmacOf kmacxof256
+unfolding rotl C D θ offsets ρ π χ roundConstants RC ι Rnd rounds keccakF region littleEndian bytesOf laneOf mixed absorbed lanes permuted squeezed padding padded sponge base256 leftEncode rightEncode encodeString fillUp bytepad cshake256 name kmacOf kmacxof256
 kmacxof256-sample = refl

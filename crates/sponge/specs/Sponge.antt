@@ -4,19 +4,10 @@
 use mathlib.Core.List.{List, [], _∷_, _++_}
 use Prim.Native.Nat.{ℕ, zero, suc, _+_, _*_, _/_, _%_, _-_}
 use lib.ListN.{length, take, drop, replicate}
+use Rattle.maths.specs.Bytes.{littleEndian, bytesOf}
 use Rattle.calls.specs.Region.{region}
 use Rattle.keccak.specs.Lane.{_⊕_, lane, state}
 use Rattle.keccak.specs.Keccak.{keccakF}
-
--- the number that bytes stand for, the lowest first
-unfoldable pub littleEndian : List ℕ → ℕ
-littleEndian [] = 0
-littleEndian (b ∷ bs) = b + 256 * littleEndian bs
-
--- the n lowest bytes of a number, the lowest first
-unfoldable pub bytesOf : ℕ → ℕ → List ℕ
-bytesOf zero v = []
-bytesOf (suc n) v = (v % 256) ∷ bytesOf n (v / 256)
 
 -- lane i of a block of bytes, and 0 past the block's end
 unfoldable pub laneOf : List ℕ → ℕ → ℕ

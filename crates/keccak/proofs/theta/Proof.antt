@@ -4,7 +4,8 @@ use mathlib.Core.Path.{_≡_, ap, _∙_}
 use mathlib.Core.List.{List, [], _∷_}
 use Prim.Native.Nat.{ℕ}
 use borrow.Author.Needs.{needs}
-use Rattle.keccak.specs.Lane.{_⊕_, at, lane, state}
+use Rattle.maths.specs.Vector.{at}
+use Rattle.keccak.specs.Lane.{_⊕_, lane, state}
 use Rattle.keccak.specs.Keccak.{C, D, θ}
 use Rattle.keccak.proofs.theta.Statement.{statement}
 use Rattle.keccak.proofs.theta.Tie as tie

@@ -1,7 +1,7 @@
 -- `sponge::lanes::lane_bytes` gives the bytes of a lane.
 -- Assumes nothing.
 use mathlib.Core.Path.{refl}
-use Rattle.sponge.specs.Sponge.{bytesOf}
+use Rattle.maths.specs.Bytes.{bytesOf}
 use borrow.Author.Needs.{needs}
 use Rattle.sponge.proofs.lanes.lane_bytes.Statement.{statement}
 use Rattle.sponge.proofs.lanes.lane_bytes.Tie as tie

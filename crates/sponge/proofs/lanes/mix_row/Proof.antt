@@ -1,7 +1,8 @@
 -- `sponge::lanes::mix_row` meets its contract, lane by lane.
 -- Assumes nothing.
 use mathlib.Core.List.{[], _∷_}
-use Rattle.keccak.specs.Lane.{_⊕_, at}
+use Rattle.maths.specs.Vector.{at}
+use Rattle.keccak.specs.Lane.{_⊕_}
 use borrow.Author.Needs.{needs}
 use Rattle.sponge.proofs.lanes.mix_row.Statement.{statement}
 use Rattle.sponge.proofs.lanes.mix_row.Tie as tie

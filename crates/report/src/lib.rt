@@ -1,0 +1,147 @@
+// What the programs that run known answers print: words, numbers, bytes in hexadecimal, answers of open calls, and checksums of long outputs.
+use calls::Answer;
+use libc::STDOUT_FILENO;
+ghost use mathlib.Core.Path.{_≡_};
+ghost use Prim.Native.Nat.{_<_, _≤_};
+ghost use lib.ListN.{length};
+
+// Prints a text as it is.
+pub fn text(bytes: &[u8]) {
+    io::write_all(STDOUT_FILENO, bytes);
+}
+
+// Prints a space and a number.
+pub fn number(n: u64) {
+    text(b" ");
+    io::print_decimal(STDOUT_FILENO, n);
+}
+
+// Ends the line.
+pub fn end() {
+    text(b"\n");
+}
+
+// A byte as a larger number.
+fn wide(x: u8) -> u64
+    ensures { λ r. ⌜ r < 256 ⌝ }
+{
+    x as u64
+}
+
+// Prints a space and bytes, each as two hexadecimal digits.
+pub fn bytes(values: &[u8]) {
+    text(b" ");
+    let mut i: usize = 0;
+    while i < values.len() {
+        io::print_hex(STDOUT_FILENO, wide(values[i]), 2);
+        i += 1;
+    }
+}
+
+// Prints the answer of an open call: done, or refused with its number and place.
+pub fn answer(given: Answer) {
+    match given {
+        Answer::Done => text(b" done"),
+        Answer::Refused(refusal, place) => {
+            text(b" refused");
+            number(refusal as u64);
+            number(place as u64);
+        }
+    }
+}
+
+// The checksum of one number more: a polynomial modulo the prime 2^32 - 5.
+fn mixed(sum: u64, x: u64) -> u64
+    requires { ⌜ (sum < 4294967291) × (x < 4294967296) ⌝ }
+    ensures { λ r. ⌜ r < 4294967291 ⌝ }
+{
+    (sum * 65599 + x + 1) % 4294967291
+}
+
+// Prints a space and the checksum of bytes.
+pub fn byte_sum(values: &[u8]) {
+    let mut sum: u64 = 0;
+    let mut i: usize = 0;
+    while i < values.len() {
+        sum = mixed(sum, wide(values[i]));
+        i += 1;
+    }
+    number(sum);
+}
+
+// A number of 32 bits as a larger one.
+fn wider(x: u32) -> u64
+    ensures { λ r. ⌜ r < 4294967296 ⌝ }
+{
+    x as u64
+}
+
+// Prints a space and the checksum of numbers.
+pub fn number_sum(values: &[u32]) {
+    let mut sum: u64 = 0;
+    let mut i: usize = 0;
+    while i < values.len() {
+        sum = mixed(sum, wider(values[i]));
+        i += 1;
+    }
+    number(sum);
+}
+
+// The size of a signed number; a size above 1,000, which no error and no multiplier has, counts as 0.
+fn size_of(x: i32) -> u32 {
+    if 1000 < x {
+        return 0;
+    }
+    if x < -1000 {
+        return 0;
+    }
+    if x < 0 { (0 - x) as u32 } else { x as u32 }
+}
+
+// 1 for a negative number, else 0.
+fn sign_of(x: i32) -> u64
+    ensures { λ r. ⌜ r < 2 ⌝ }
+{
+    if x < 0 { 1 } else { 0 }
+}
+
+// Prints a space and the checksum of the signs and sizes of signed numbers.
+pub fn signed_sum(values: &[i32]) {
+    let mut sum: u64 = 0;
+    let mut i: usize = 0;
+    while i < values.len() {
+        let x = values[i];
+        sum = mixed(mixed(sum, sign_of(x)), wider(size_of(x)));
+        i += 1;
+    }
+    number(sum);
+}
+
+// Fills bytes with a pattern: none of them is above 198, so that three of them are never a candidate that a draw sets aside.
+pub fn fill_bytes(values: &mut [u8], start: usize)
+    requires { ⌜ (start ≤ 1000) × (length (now values) ≤ 1000000) ⌝ }
+{
+    let mut i: usize = 0;
+    while i < values.len() {
+        values[i] = ((start + 13 * i) % 199) as u8;
+        i += 1;
+    }
+}
+
+// Fills numbers with 7, which shows where a call wrote nothing.
+pub fn fill_numbers(values: &mut [u32]) {
+    let mut i: usize = 0;
+    while i < values.len() {
+        values[i] = 7;
+        i += 1;
+    }
+}
+
+// The same for signed numbers.
+pub fn fill_signed(values: &mut [i32]) {
+    let mut i: usize = 0;
+    while i < values.len() {
+        values[i] = 7;
+        i += 1;
+    }
+}

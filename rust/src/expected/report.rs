@@ -1,0 +1,37 @@
+//! The pieces of a line, as the programs print them.
+
+use crate::draws::Refusal;
+
+/// The answer of an open call.
+pub fn answer<T>(given: &Result<T, Refusal>) -> String {
+    match given {
+        Ok(_) => "done".to_string(),
+        Err(refused) => format!("refused {} {}", refused.number, refused.place),
+    }
+}
+
+pub fn hex(bytes: &[u8]) -> String {
+    bytes.iter().map(|byte| format!("{byte:02x}")).collect()
+}
+
+/// A checksum: a polynomial modulo the prime 2^32 - 5.
+pub fn sum(numbers: impl IntoIterator<Item = u64>) -> u64 {
+    numbers.into_iter().fold(0, |sum, x| (sum * 65599 + x + 1) % 4294967291)
+}
+
+pub fn byte_sum(bytes: &[u8]) -> u64 {
+    sum(bytes.iter().map(|&byte| byte as u64))
+}
+
+pub fn number_sum(numbers: &[u32]) -> u64 {
+    sum(numbers.iter().map(|&x| x as u64))
+}
+
+pub fn signed_sum(numbers: &[i32]) -> u64 {
+    sum(numbers.iter().flat_map(|&x| [(x < 0) as u64, x.unsigned_abs() as u64]))
+}
+
+/// The pattern that slices are filled with.
+pub fn pattern(length: usize, start: usize) -> Vec<u8> {
+    (0..length).map(|i| ((start + 13 * i) % 199) as u8).collect()
+}

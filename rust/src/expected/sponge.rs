@@ -1,0 +1,81 @@
+//! What run_sponge prints.
+
+use super::report::{answer, byte_sum, hex, pattern};
+use crate::draws::{refusal, Refusal};
+use crate::sponge::{kmac256, kmacxof256, shake256};
+
+const LIMIT: usize = 65536;
+
+/// The answer of a sponge call whose slices have these lengths.
+fn checked(lengths: &[usize]) -> Result<(), Refusal> {
+    if lengths.iter().any(|&length| length > LIMIT) {
+        return refusal(6, 0);
+    }
+    Ok(())
+}
+
+fn shake(input: usize, output: usize) -> String {
+    let (x, mut y) = (pattern(LIMIT + 1, 1), pattern(LIMIT + 1, 2));
+    let checked = checked(&[input, output]);
+    if checked.is_ok() {
+        shake256(&x[..input], &mut y[..output]);
+    }
+    format!("shake256 {input} {output} {} {}\n", answer(&checked), byte_sum(&y))
+}
+
+type Kmac = fn(&[u8], &[u8], &[u8], &mut [u8]);
+
+fn kmac(name: &str, function: Kmac, start: usize, [key, input, customization, output]: [usize; 4]) -> String {
+    let (x, mut y) = (pattern(LIMIT + 1, 1), pattern(LIMIT + 1, start));
+    let checked = checked(&[key, input, customization, output]);
+    if checked.is_ok() {
+        function(&x[..key], &x[..input], &x[..customization], &mut y[..output]);
+    }
+    format!("{name} {key} {input} {customization} {output} {} {}\n", answer(&checked), byte_sum(&y))
+}
+
+fn fixed(lengths: [usize; 4]) -> String {
+    kmac("kmac256", kmac256, 4, lengths)
+}
+
+fn extendable(lengths: [usize; 4]) -> String {
+    kmac("kmacxof256", kmacxof256, 5, lengths)
+}
+
+fn samples() -> String {
+    let mut text = String::new();
+    for message in [&[][..], &[0xa3; 200]] {
+        let mut out = [0; 512];
+        shake256(message, &mut out);
+        text += &format!("sample {}\n", hex(&out));
+    }
+    let key: Vec<u8> = (0x40..0x60).collect();
+    let counted: Vec<u8> = (0..200).collect();
+    for (input, customization) in [(4, ""), (4, "My Tagged Application"), (200, ""), (200, "My Tagged Application")] {
+        let (mut one, mut other) = ([0; 64], [0; 64]);
+        kmac256(&key, &counted[..input], customization.as_bytes(), &mut one);
+        kmacxof256(&key, &counted[..input], customization.as_bytes(), &mut other);
+        text += &format!("sample {} {}\n", hex(&one), hex(&other));
+    }
+    text
+}
+
+fn around(edge: usize) -> String {
+    (edge..edge + 9)
+        .map(|n| {
+            let kmacs = [fixed([n, 4, 0, 32]), fixed([32, n, 3, 32]), extendable([32, 4, n, 32]), extendable([32, 4, 0, n])];
+            shake(n, 32) + &shake(5, n) + &kmacs.concat()
+        })
+        .collect()
+}
+
+fn limits() -> String {
+    let shakes = [shake(LIMIT, LIMIT), shake(LIMIT + 1, 10), shake(10, LIMIT + 1)];
+    let fixed = [[LIMIT; 4], [LIMIT + 1, 1, 1, 1], [1, LIMIT + 1, 1, 1]].map(fixed);
+    let extendable = [[1, 1, LIMIT + 1, 1], [1, 1, 1, LIMIT + 1]].map(extendable);
+    shakes.concat() + &fixed.concat() + &extendable.concat()
+}
+
+pub fn text() -> String {
+    samples() + &[0, 132, 268].map(around).concat() + &limits()
+}
