@@ -1,6 +1,6 @@
 -- Laws of an outcome: what a check gives when its test is known, what an accepted call tells, and what a call leaves.
 -- Assumes nothing.
-use mathlib.Core.Path.{_≡_, refl}
+use mathlib.Core.Path.{_≡_, refl, sym, _∙_}
 use mathlib.Core.Bool.{Bool, true, false}
 use mathlib.Core.List.{List}
 use Prim.Native.Nat.{ℕ}
@@ -38,3 +38,12 @@ module _ {A : Type 0} (new old : List A) where
   pub leaves-length : (o : Outcome) → length new ≡ length old → length (leaves o new old) ≡ length old
   leaves-length accepted e = e
   leaves-length (refused number place) e = refl
+
+module _ {A : Type 0} {o : Outcome} (new old : List A) where
+  -- a refused call: the answer, and the output as it was
+  pub refused-call : {number place : ℕ} → o ≡ refused number place → (refused number place ≡ o) × (old ≡ leaves o new old)
+  refused-call e = (sym e, sym (leaves-refused new old e))
+
+  -- an accepted call: the answer, and the output as written
+  pub accepted-call : {written : List A} → o ≡ accepted → written ≡ new → (accepted ≡ o) × (written ≡ leaves o new old)
+  accepted-call e w = (sym e, w ∙ sym (leaves-accepted new old e))

@@ -1,14 +1,15 @@
--- Laws of regions, for any entries and any places: the length, the entry at a place, a region of a list that was written over, one write over another.
+-- Laws of regions, for any entries and any places: the length, the entry at a place, a region of a list that was written over, one write over another, vectors one after the other.
 -- Assumes nothing.
 use mathlib.Core.Path.{_≡_, refl, sym, ap, _∙_}
 use mathlib.Core.List.{List, [], _∷_, _++_, append-assoc, append-nil}
-use Prim.Native.Nat.{ℕ, _+_, _-_, _≤_, _<_}
-use native.Mathlib.Nat.{zero-add, add-zero}
+use mathlib.Core.Logic.{inl, inr}
+use Prim.Native.Nat.{ℕ, zero, suc, _+_, _-_, _*_, _≤_, _<_}
+use native.Mathlib.Nat.{zero-add, add-zero, mul-zero, mul-suc, mul-le-mul-left, eq-or-lt-of-le, le-of-suc-le-suc}
 use native.Mathlib.Decide.{decLt}
 use native.Mathlib.Omega.{arith}
 use lib.ListN.{length, getD, take, drop, length-append, length-take, length-drop, take-append-drop, List·getD-append}
-use lib.Seq.{length-take-le, take-at, drop-at, drop-drop, take-add, getD-take, getD-drop, getD-append-add, ext-getD, take-all, drop-length}
-use Rattle.calls.specs.Region.{region, over, Apart}
+use lib.Seq.{length-take-le, take-at, drop-at, drop-drop, take-add, take-append-le, drop-append-le, getD-take, getD-drop, getD-append-add, ext-getD, take-all, drop-length}
+use Rattle.calls.specs.Region.{region, over, vector, joined, Apart}
 
 module _ {A : Type 0} where
   -- two lists of one length that agree at each place are equal, whatever entry is read past the end
@@ -151,3 +152,34 @@ module _ {A : Type 0} where
         sym (over-parts (over xs at ys) (at + length ys) zs end refl)
         ∙ rw (over-front, ← drop-drop (length zs) (at + length ys) (over xs at ys), over-drop, drop-drop, append-assoc (take at xs) ys zs)
         (over-parts xs at (ys ++ zs) end (simp length-append (omega arith)))
+
+  -- the length of vectors of n entries each, one after the other
+  pub joined-length : (n t : ℕ) (f : ℕ → List A) → ((i : ℕ) → i < t → length (f i) ≡ n) → length (joined t f) ≡ n * t
+  unfolding joined
+  joined-length n zero f size = sym (mul-zero n)
+  joined-length n (suc t) f size = rw (length-append, joined-length n t f (λ i h. size i (omega arith)), size t (omega arith), mul-suc)
+
+  -- vector i of them
+  pub vector-joined : (n t : ℕ) (f : ℕ → List A) → ((i : ℕ) → i < t → length (f i) ≡ n) → (i : ℕ) → i < t → vector n (joined t f) i ≡ f i
+  unfolding joined region
+  vector-joined n zero f size i h = absurd (omega arith)
+  vector-joined n (suc t) f size i h =
+      let front : length (joined t f) ≡ n * t = joined-length n t f (λ j l. size j (omega arith)) in
+      elim (eq-or-lt-of-le (le-of-suc-le-suc h)) [
+        | inl last ↦ rw (last, drop-at (joined t f) (f t) (n * t) front) (take-all n (f t) (omega (arith, size t (omega arith))))
+        | inr before ↦
+            let room : n * suc i ≤ n * t = mul-le-mul-left n before in
+            rw (drop-append-le (n * i) (joined t f) (f t) (omega arith), take-append-le n (drop (n * i) (joined t f)) (f t) (rw length-drop (omega arith))) (vector-joined n t f (λ j l. size j (omega arith)) i before)
+      ]
+
+  -- what holds of each entry of each vector, and of the entry read past the end, holds of each entry of all
+  pub joined-each : (P : A → Type 0) (d : A) → P d → (t : ℕ) (f : ℕ → List A) → ((i j : ℕ) → i < t → P (getD (f i) j d)) → (j : ℕ) → P (getD (joined t f) j d)
+  unfolding joined
+  joined-each P d past zero f each j = past
+  joined-each P d past (suc t) f each j =
+      elim (decLt j (length (joined t f))) [
+        | yes before ↦ rw (List·getD-append (joined t f) (f t) d j before) (joined-each P d past t f (λ i k h. each i k (omega arith)) j)
+        | no after ↦
+            let place : j ≡ length (joined t f) + (j - length (joined t f)) = omega arith in
+            rw (place, getD-append-add (joined t f) (f t) (j - length (joined t f)) d) (each t (j - length (joined t f)) (omega arith))
+      ]

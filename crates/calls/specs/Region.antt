@@ -3,7 +3,7 @@
 -- Assumes nothing.
 use mathlib.Core.Path.{_≡_, refl}
 use mathlib.Core.List.{List, [], _∷_, _++_}
-use Prim.Native.Nat.{ℕ, _+_, _<_}
+use Prim.Native.Nat.{ℕ, zero, suc, _+_, _*_, _<_}
 use lib.ListN.{length, take, drop}
 
 -- the n entries of xs from place at on
@@ -13,6 +13,15 @@ region xs at n = take n (drop at xs)
 -- xs with ys in place from at on
 unfoldable pub over : {A : Type 0} → List A → ℕ → List A → List A
 over xs at ys = take at xs ++ ys ++ drop (at + length ys) xs
+
+-- vector i of a family of vectors of n entries each, which stand one after the other in one list
+abbrev pub vector : {A : Type 0} → ℕ → List A → ℕ → List A
+vector n xs i = region xs (n * i) n
+
+-- the vectors f 0, f 1, .., f (t − 1), one after the other
+unfoldable pub joined : {A : Type 0} → ℕ → (ℕ → List A) → List A
+joined zero f = []
+joined (suc t) f = joined t f ++ f t
 
 -- the n places from one on and the m places from another on have no place in common
 pub record Apart (one n other m : ℕ) : Type 0 where
@@ -25,3 +34,11 @@ region-example = refl
 over-example : _≡_ {A = List ℕ} (over (1 ∷ 2 ∷ 3 ∷ 4 ∷ []) 1 (8 ∷ 9 ∷ [])) (1 ∷ 8 ∷ 9 ∷ 4 ∷ [])
 unfolding over
 over-example = refl
+
+vector-example : _≡_ {A = List ℕ} (vector 2 (1 ∷ 2 ∷ 3 ∷ 4 ∷ []) 1) (3 ∷ 4 ∷ [])
+unfolding region
+vector-example = refl
+
+joined-example : _≡_ {A = List ℕ} (joined 2 (λ i. i ∷ 7 ∷ [])) (0 ∷ 7 ∷ 1 ∷ 7 ∷ [])
+unfolding joined
+joined-example = refl

@@ -18,7 +18,7 @@ pub fn wide(x: u8) -> u32
 }
 
 // The number of the three bytes from a position on.
-fn candidate_at(bytes: &[u8], position: usize) -> u32
+pub fn candidate_at(bytes: &[u8], position: usize) -> u32
     requires { ⌜ position + 3 ≤ length (now bytes) ⌝ }
     ensures { λ r. ⌜ r ≡ littleEndian (region (now (bytes .entry)) position 3) ⌝ }
 {

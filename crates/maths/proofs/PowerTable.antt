@@ -10,12 +10,22 @@ use native.Mathlib.Omega.{arith}
 use borrow.Author.Tests.{eqb-true, eqb-false, not-true}
 use lib.Dec.{eqb}
 use lib.ListN.{length, getD}
-use Rattle.maths.specs.Vector.{tabulate}
+use Rattle.maths.specs.Vector.{at, tabulate}
 use Rattle.maths.specs.Congruence.{Mod}
 use Rattle.maths.specs.Prime.{Prime}
 use Rattle.maths.specs.Root.{RootOfOrder, powerTable, inverseRoot, inverseSize, continues, isPowerTable}
-use Rattle.maths.proofs.Vector.{tabulate-unique}
+use Rattle.maths.proofs.Vector.{tabulate-length, tabulate-at, tabulate-unique}
 use Rattle.maths.proofs.Congruence.{mod-eq, mod-trans, mod-mul, mod-refl, mod-remainder, mod-add-multiple}
+
+-- the length of a table of powers
+pub powerTable-length : (q w D : ℕ) → length (powerTable q w D) ≡ D
+unfolding powerTable
+powerTable-length q w D = tabulate-length D _
+
+-- the power at a place
+pub powerTable-at : (q w D i : ℕ) → i < D → at (powerTable q w D) i ≡ w ^ i % q
+unfolding powerTable
+powerTable-at q w D i h = tabulate-at D _ i h
 
 -- both parts of a test hold where the test does
 both : (a b : Bool) → (a && b) ≡ true → (a ≡ true) × (b ≡ true)

@@ -1,6 +1,7 @@
-pub mod PlaceSum
-pub mod Chained
-pub mod OpenCall
-pub mod MiddleAnswer
 pub mod BitLaws
 pub mod ReadingLaws
+pub mod Size
+pub mod Family
+pub mod KeyLaws
+pub mod MultiplierLaws
+pub mod SealingLaws

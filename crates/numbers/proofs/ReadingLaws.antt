@@ -14,8 +14,8 @@ use Rattle.sets.specs.declared.Parameters.{Parameters}
 use Rattle.sets.specs.Table.{setOf}
 use Rattle.numbers.specs.Scheme.{opened, bitRead, reading}
 use Rattle.numbers.specs.Calls.{readingShape, readingAnswer}
-use Rattle.numbers.proofs.Chained.{Below, two-slices, accepted-one, accepted-two}
-use Rattle.numbers.proofs.OpenCall.{opening-passed}
+use Rattle.middle.proofs.Chained.{Below, two-slices, accepted-one, accepted-two}
+use Rattle.middle.proofs.OpenCall.{opening-passed}
 
 -- as many bits as the message has
 pub reading-length : (set : ℕ) (p : Parameters) (c1 c2 s : List ℕ) → length (reading set p c1 c2 s) ≡ p .d

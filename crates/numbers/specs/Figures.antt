@@ -14,7 +14,7 @@ use Rattle.calls.specs.Region.{region}
 use Rattle.sets.specs.declared.Parameters.{Parameters}
 use Rattle.sets.specs.Table.{none, table, setOf}
 use Rattle.sets.specs.Derived.{halfModulus}
-use Rattle.numbers.specs.Scheme.{key, firstPart, secondPart, opened, bitRead, reading}
+use Rattle.numbers.specs.Scheme.{key, sumOfProducts, firstPart, secondPart, opened, bitRead, reading}
 
 bench : Parameters
 bench = setOf 0
@@ -73,5 +73,5 @@ figures =
     (0 ∷ 0 ∷ 1 ∷ 0 ∷ 0 ∷ 1 ∷ 1 ∷ 1 ∷ 0 ∷ []) ∷ []
 
 bench-figures : computed ≡ figures
-unfolding bench a s e r message b c1 c2 readWith computed figures none table setOf halfModulus region tabulate sum product middleProduct transformAt transform residue floorBit key firstPart secondPart opened bitRead reading
+unfolding bench a s e r message b c1 c2 readWith computed figures none table setOf halfModulus region tabulate sum product middleProduct transformAt transform residue floorBit key sumOfProducts firstPart secondPart opened bitRead reading
 bench-figures = refl

@@ -1,5 +1,5 @@
 pub mod Scheme
 pub mod Calls
 pub mod Noise
-pub mod Operand
+pub mod Operands
 pub mod Figures

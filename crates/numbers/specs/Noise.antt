@@ -6,7 +6,7 @@ use lib.IntN.{ℤ, pos, _*ℤ_}
 use lib.ListN.{getD}
 use Rattle.maths.specs.Integer.{sumℤ}
 use Rattle.sets.specs.declared.Parameters.{Parameters}
-use Rattle.numbers.specs.Scheme.{vector}
+use Rattle.calls.specs.Region.{vector}
 
 -- the coefficient at place l of the product of two polynomials of whole numbers
 unfoldable pub productℤ : List ℤ → List ℤ → ℕ → ℤ

@@ -10,13 +10,9 @@ use Rattle.maths.specs.Sum.{sum}
 use Rattle.maths.specs.Product.{product}
 use Rattle.maths.specs.Integer.{residue}
 use Rattle.maths.specs.Rounding.{floorBit, centredBit}
-use Rattle.calls.specs.Region.{region}
+use Rattle.calls.specs.Region.{vector}
 use Rattle.sets.specs.declared.Parameters.{Parameters}
 use Rattle.sets.specs.Derived.{halfModulus}
-
--- vector i of a family of vectors of n numbers each
-abbrev pub vector : {A : Type 0} → ℕ → List A → ℕ → List A
-vector n xs i = region xs (n * i) n
 
 -- the residues of whole numbers
 abbrev pub residues : ℕ → List ℤ → List ℕ
@@ -28,16 +24,19 @@ key p a s e =
     tabulate (p .t * (p .d + p .k))
     (λ l. let i = l / (p .d + p .k) in let j = l % (p .d + p .k) in (product (vector (p .n) a i) s (p .n - 1 + j) + at (residues (p .q) e) l) % p .q)
 
+-- place j of the sum of the products x_i · y_i, over two families of t vectors
+unfoldable pub sumOfProducts : ℕ → ℕ → List ℕ → ℕ → List ℕ → ℕ → ℕ
+sumOfProducts t m x n y j = sum t (λ i. product (vector m x i) (vector n y i) j)
+
 -- c1: the sum of the products r_i · a_i, n + k numbers
 unfoldable pub firstPart : Parameters → List ℕ → List ℤ → List ℕ
-firstPart p a r =
-    tabulate (p .n + p .k) (λ j. sum (p .t) (λ i. product (residues (p .q) (vector (p .k + 1) r i)) (vector (p .n) a i) j) % p .q)
+firstPart p a r = tabulate (p .n + p .k) (λ j. sumOfProducts (p .t) (p .k + 1) (residues (p .q) r) (p .n) a j % p .q)
 
 -- c2: the sum of the middle products of r_i and b_i, plus h times the message bit, d numbers
 unfoldable pub secondPart : Parameters → List ℕ → List ℤ → List ℕ → List ℕ
 secondPart p b r m =
     tabulate (p .d)
-    (λ j. (sum (p .t) (λ i. product (residues (p .q) (vector (p .k + 1) r i)) (vector (p .d + p .k) b i) (p .k + j)) + halfModulus p * at m j) % p .q)
+    (λ j. (sumOfProducts (p .t) (p .k + 1) (residues (p .q) r) (p .d + p .k) b (p .k + j) + halfModulus p * at m j) % p .q)
 
 -- w: c2 less the middle product of c1 and s
 unfoldable pub opened : Parameters → List ℕ → List ℕ → List ℕ → ℕ → ℕ

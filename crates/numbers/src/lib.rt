@@ -1,6 +1,7 @@
-// Middle product, key, sealing and reading on numbers (01, Arithmetic): open calls, each with its plain work and its checks.
+// Key, sealing and reading on numbers (01, Arithmetic): open calls, each with its checks and its plain work.
 pub mod bits;
-pub mod checks;
-pub mod middle;
-pub mod places;
+pub mod counts;
+pub mod key;
 pub mod reading;
+pub mod sealing;
+pub mod signed;

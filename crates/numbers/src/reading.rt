@@ -1,8 +1,8 @@
 // Reading on numbers (01, Reading).
 use crate::bits;
-use crate::checks;
-use crate::places;
 use calls::Answer;
+use middle::checks;
+use middle::places;
 use sets::Parameters;
 ghost use mathlib.Core.Path.{_≡_};
 ghost use mathlib.Core.List.{_++_};
@@ -12,7 +12,7 @@ ghost use Rattle.calls.specs.Outcome.{outcome, accepted};
 ghost use Rattle.calls.specs.Checks.{allOf, refuseFirst, below};
 ghost use Rattle.sets.specs.Table.{setOf};
 ghost use Rattle.sets.specs.Rules.{Rules};
-ghost use Rattle.numbers.specs.Operand.{ReadingOperands};
+ghost use Rattle.numbers.specs.Operands.{ReadingOperands};
 ghost use Rattle.numbers.specs.Scheme as scheme;
 ghost use Rattle.numbers.specs.Scheme.{opened};
 ghost use Rattle.numbers.specs.Calls.{readingShape, readingAnswer, readingLeft};

@@ -1,11 +1,16 @@
 -- The three transform sizes of a set and their roots, by number.
 -- Assumes nothing.
 use mathlib.Core.Path.{_≡_}
-use Prim.Native.Nat.{ℕ}
+use mathlib.Core.Bool.{Bool, true, false, cond}
+use Prim.Native.Nat.{ℕ, _≤_, _<_}
+use native.Mathlib.Omega.{arith}
+use lib.Dec.{eqb}
 use borrow.Author.Tests.{eq-eqb, ne-eqb}
 use Rattle.maths.specs.Root.{powerTable}
 use Rattle.sets.specs.declared.Parameters.{Parameters}
+use Rattle.sets.specs.Table.{setOf}
 use Rattle.sets.specs.Derived.{transformSize, transformRoot, rootPowers}
+use Rattle.sets.proofs.Rules.{rules}
 
 module _ (p : Parameters) (i : ℕ) where
   pub size-first : i ≡ 1 → transformSize p i ≡ p .d1
@@ -20,6 +25,18 @@ module _ (p : Parameters) (i : ℕ) where
   unfolding transformSize
   size-third f s = rw (ne-eqb i 1 f, ne-eqb i 2 s)
 
+  pub root-first : i ≡ 1 → transformRoot p i ≡ p .w1
+  unfolding transformRoot
+  root-first e = rw (eq-eqb i 1 e)
+
+  pub root-second : i ≡ 2 → transformRoot p i ≡ p .w2
+  unfolding transformRoot
+  root-second e = rw e
+
+  pub root-third : (i ≡ 1 → ⊥) → (i ≡ 2 → ⊥) → transformRoot p i ≡ p .w3
+  unfolding transformRoot
+  root-third f s = rw (ne-eqb i 1 f, ne-eqb i 2 s)
+
   pub powers-first : i ≡ 1 → rootPowers p i ≡ powerTable (p .q) (p .w1) (p .d1)
   unfolding transformSize transformRoot rootPowers
   powers-first e = rw (eq-eqb i 1 e)
@@ -31,3 +48,19 @@ module _ (p : Parameters) (i : ℕ) where
   pub powers-third : (i ≡ 1 → ⊥) → (i ≡ 2 → ⊥) → rootPowers p i ≡ powerTable (p .q) (p .w3) (p .d3)
   unfolding transformSize transformRoot rootPowers
   powers-third f s = rw (ne-eqb i 1 f, ne-eqb i 2 s)
+
+-- what holds of the three sizes holds of each
+pub by-size : (p : Parameters) (i : ℕ) (P : ℕ → Type 0) → P (p .d1) → P (p .d2) → P (p .d3) → P (transformSize p i)
+unfolding transformSize
+by-size p i P first second third = picked (eqb i 1) (eqb i 2)
+  where
+    picked : (one two : Bool) → P (cond one (p .d1) (cond two (p .d2) (p .d3)))
+    picked true two = first
+    picked false true = second
+    picked false false = third
+
+-- no transform has more than 3,328 places
+pub size-most : (set : ℕ) → set < 13 → (i : ℕ) → transformSize (setOf set) i ≤ 3328
+size-most set low i =
+    let kept = rules set low in
+    by-size (setOf set) i (λ D. D ≤ 3328) (omega (arith, kept .rising1, kept .rising2, kept .most-d3)) (omega (arith, kept .rising2, kept .most-d3)) (kept .most-d3)

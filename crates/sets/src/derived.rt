@@ -4,7 +4,7 @@ ghost use mathlib.Core.Path.{_≡_};
 ghost use Prim.Native.Nat.{_*_, _<_, _≤_, _^_};
 ghost use Rattle.sets.specs.Table.{setOf};
 ghost use Rattle.sets.specs.Rules.{Rules};
-ghost use Rattle.sets.specs.Derived.{halfModulus, multiplierCount, multiplierBytes, packedBytes, publicKeyBytes, sealedBytes, isEncryption, isExchange, secretKeyBytes, ciphertextBytes};
+ghost use Rattle.sets.specs.Derived.{halfModulus, transformSize, transformRoot, multiplierCount, multiplierBytes, packedBytes, publicKeyBytes, sealedBytes, isEncryption, isExchange, secretKeyBytes, ciphertextBytes};
 
 // The half modulus h.
 pub fn half_modulus(p: Parameters) -> u32
@@ -12,6 +12,28 @@ pub fn half_modulus(p: Parameters) -> u32
     ensures { λ r. ⌜ r ≡ halfModulus p ⌝ }
 {
     (p.q - 1) / 2
+}
+
+// The size of transform number i.
+pub fn transform_size(p: Parameters, i: usize) -> usize
+    ensures { λ r. ⌜ r ≡ transformSize p i ⌝ }
+{
+    match i {
+        1 => p.d1,
+        2 => p.d2,
+        _ => p.d3,
+    }
+}
+
+// Root number i.
+pub fn transform_root(p: Parameters, i: usize) -> u32
+    ensures { λ r. ⌜ r ≡ transformRoot p i ⌝ }
+{
+    match i {
+        1 => p.w1,
+        2 => p.w2,
+        _ => p.w3,
+    }
 }
 
 // N_dec: how many multipliers one sealing draws.

@@ -14,14 +14,14 @@ use Rattle.sponge.specs.Answers.{within, spongeAnswer}
 
 module _ (lengths new old : List ℕ) where
   -- the answer and the output of a refused call
-  pub refused-call : within lengths ≡ false → (outcome (Refused 6 0) ≡ spongeAnswer lengths) × (old ≡ leaves (spongeAnswer lengths) new old)
+  pub too-long : within lengths ≡ false → (outcome (Refused 6 0) ≡ spongeAnswer lengths) × (old ≡ leaves (spongeAnswer lengths) new old)
   unfolding spongeAnswer
-  refused-call e = rw e (refl, refl)
+  too-long e = rw e (refl, refl)
 
   -- the answer and the output of an accepted call
-  pub accepted-call : {out : List ℕ} → within lengths ≡ true → out ≡ new → (outcome Done ≡ spongeAnswer lengths) × (out ≡ leaves (spongeAnswer lengths) new old)
+  pub within-limit : {out : List ℕ} → within lengths ≡ true → out ≡ new → (outcome Done ≡ spongeAnswer lengths) × (out ≡ leaves (spongeAnswer lengths) new old)
   unfolding spongeAnswer
-  accepted-call e w = rw e (refl, w)
+  within-limit e w = rw e (refl, w)
 
 -- two lengths, of which the first is too large
 pub two-first : (a b : ℕ) → 65536 < a → within (a ∷ b ∷ []) ≡ false

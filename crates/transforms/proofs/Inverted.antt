@@ -18,7 +18,7 @@ use Rattle.maths.proofs.Vector.{equal-by-place}
 use Rattle.maths.proofs.Congruence.{mod-refl, mod-eq, mod-sym, mod-trans, mod-mul, mod-one-mul}
 use Rattle.maths.proofs.Root.{powers-cancel}
 use Rattle.transforms.specs.Ready.{InvertedTable}
-use Rattle.transforms.proofs.Ready.{powerTable-length, powerTable-at}
+use Rattle.maths.proofs.PowerTable.{powerTable-length, powerTable-at}
 
 -- the places that are exchanged after the turns before i
 pub record Exchanged (old : List ℕ) (i : ℕ) (new : List ℕ) : Type 0 where

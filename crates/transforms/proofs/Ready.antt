@@ -9,21 +9,10 @@ use native.Mathlib.Omega.{arith}
 use lib.Pow.{pow-pos, pow-mono}
 use lib.ListN.{length}
 use Rattle.maths.specs.Vector.{at}
-use Rattle.maths.specs.Root as root
 use Rattle.maths.specs.Root.{Root, powerTable}
-use Rattle.maths.proofs.Vector.{tabulate-length, tabulate-at}
+use Rattle.maths.proofs.PowerTable.{powerTable-length, powerTable-at}
 use Rattle.maths.proofs.Radix.{half-power}
 use Rattle.transforms.specs.Ready.{AllBelow, Ready}
-
--- the length of a table of powers
-pub powerTable-length : (q w D : ℕ) → length (powerTable q w D) ≡ D
-unfolding root.powerTable
-powerTable-length q w D = tabulate-length D _
-
--- the power at a place
-pub powerTable-at : (q w D i : ℕ) → i < D → at (powerTable q w D) i ≡ w ^ i % q
-unfolding root.powerTable
-powerTable-at q w D i h = tabulate-at D _ i h
 
 module _ {q ρ δ w : ℕ} {powers : List ℕ} (ready : Ready q ρ δ w powers) where
   -- the table has δ · ρ powers

@@ -2,13 +2,13 @@
 -- Assumes nothing.
 use mathlib.Core.Path.{sym, _∙_}
 use borrow.Author.Tests.{not-true, not-false}
-use Rattle.sponge.proofs.Answering.{refused-call, accepted-call, four-limits}
+use Rattle.sponge.proofs.Answering.{too-long, within-limit, four-limits}
 use borrow.Author.Needs.{needs}
 use Rattle.sponge.proofs.kmacxof256.Statement.{statement}
 use Rattle.sponge.proofs.kmacxof256.Tie as tie
 
 returns : tie.Need-returns
-returns c = refused-call _ _ _ (sym (c .before .all-within .ensures) ∙ not-true _ (c .if1 .taken))
+returns c = too-long _ _ _ (sym (c .before .all-within .ensures) ∙ not-true _ (c .if1 .taken))
 
 kmacxof256-into-requires : tie.Need-kmacxof256-into-requires
 kmacxof256-into-requires c κs =
@@ -17,7 +17,7 @@ kmacxof256-into-requires c κs =
 
 returns-2 : tie.Need-returns-2
 returns-2 c =
-    accepted-call _ _ _ (sym (c .before .before .before .before .before .all-within .ensures) ∙ not-false _ (c .before .before .before .before .if1 .left)) (c .before .before .kmacxof256-into .ensures)
+    within-limit _ _ _ (sym (c .before .before .before .before .before .all-within .ensures) ∙ not-false _ (c .before .before .before .before .if1 .left)) (c .before .before .kmacxof256-into .ensures)
 
 pub kmacxof256-spec : {M : Type 1} → statement M
 kmacxof256-spec =

@@ -6,7 +6,7 @@ use Prim.Native.Nat.{_+_}
 use lib.ListN.{length}
 use Rattle.calls.specs.Outcome.{accepted}
 use Rattle.calls.specs.Checks.{below, refuseFirst}
-use Rattle.numbers.proofs.Chained.{first-refused, first-accepted}
+use Rattle.middle.proofs.Chained.{first-refused, first-accepted}
 use Rattle.numbers.proofs.ReadingLaws.{three-slices}
 use borrow.Author.Needs.{needs}
 use Rattle.numbers.proofs.reading.numbers_checked.Statement.{statement}

@@ -7,10 +7,11 @@ use native.Mathlib.Omega.{arith}
 use borrow.Author.Tests.{eqb-true, not-true, not-false}
 use Rattle.calls.specs.Outcome.{outcome, accepted}
 use Rattle.calls.specs.Checks.{allOf}
+use Rattle.calls.proofs.Outcome.{refused-call, accepted-call}
 use Rattle.calls.proofs.Checks.{allOf-each}
 use Rattle.sets.proofs.Rules.{rules}
 use Rattle.numbers.specs.Calls.{readingShape, readingAnswer, readingLeft}
-use Rattle.numbers.proofs.OpenCall.{opening-set, opening-lengths, refused-call, accepted-call, operand}
+use Rattle.middle.proofs.OpenCall.{opening-set, opening-lengths, operand}
 use Rattle.numbers.proofs.ReadingLaws.{accepted-three, reading-numbers}
 use borrow.Author.Needs.{needs}
 use Rattle.numbers.proofs.reading.reading.Statement.{statement}

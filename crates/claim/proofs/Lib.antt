@@ -1,0 +1,4 @@
+pub mod Exchange
+pub mod NoiseResidue
+pub mod Noisy
+pub mod Claim

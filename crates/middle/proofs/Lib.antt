@@ -1,0 +1,4 @@
+pub mod PlaceSum
+pub mod Chained
+pub mod OpenCall
+pub mod MiddleAnswer

@@ -1,0 +1,70 @@
+-- Multipliers: the bound of a position as the code computes it, the two tests of a multiplier, and an accepted check (01, Sealing).
+-- Assumes nothing.
+use mathlib.Core.Path.{_≡_}
+use mathlib.Core.Bool.{Bool, true, false, _&&_}
+use mathlib.Core.List.{List}
+use Prim.Native.Nat.{ℕ, _+_, _*_, _%_, _^_, _≤_, _<_}
+use native.Mathlib.Nat.{one-mul, mod-eq-of-lt}
+use native.Mathlib.Decide.{decLt}
+use native.Mathlib.Omega.{arith}
+use borrow.Author.Tests.{lt-ltb, le-ltb, le-leb, lt-leb, leb-true, leb-false}
+use lib.Dec.{leb}
+use lib.IntN.{ℤ, pos, natAbs}
+use lib.ListN.{length, getD}
+use lib.Pow.{pow-lt}
+use Rattle.calls.specs.Outcome.{Outcome, accepted}
+use Rattle.calls.specs.Checks.{refuseFirst}
+use Rattle.calls.proofs.Checks.{refuseFirst-accepted, passing-all}
+use Rattle.sets.specs.declared.Parameters.{Parameters}
+use Rattle.sets.specs.Rules.{Rules}
+use Rattle.numbers.specs.Calls.{isMultiplier, multiplierBound}
+
+-- a bit shifted by fewer than 32 places
+shifted : (b : ℕ) → b < 32 → 1 * 2 ^ b % 2 ^ 32 ≡ 2 ^ b
+shifted b h = rw one-mul (mod-eq-of-lt (pow-lt h))
+
+module _ (p : Parameters) (kept : Rules p) (position : ℕ) where
+  -- the first bound
+  pub bound-first : position < p .ndec1 → 1 * 2 ^ p .b1 % 2 ^ 32 ≡ multiplierBound p position
+  unfolding multiplierBound
+  bound-first h = rw (lt-ltb position (p .ndec1) h) (shifted (p .b1) (omega (arith, kept .bounds, kept .most-b2)))
+
+  -- the second
+  pub bound-second : p .ndec1 ≤ position → 1 * 2 ^ p .b2 % 2 ^ 32 ≡ multiplierBound p position
+  unfolding multiplierBound
+  bound-second h = rw (le-ltb position (p .ndec1) h) (shifted (p .b2) (omega (arith, kept .most-b2)))
+
+  -- both are small
+  pub bound-small : multiplierBound p position < 2 ^ 24
+  unfolding multiplierBound
+  bound-small =
+      elim (decLt position (p .ndec1)) [
+        | yes h ↦ rw (lt-ltb position (p .ndec1) h) (pow-lt {i = p .b1} {j = 24} (omega (arith, kept .bounds, kept .most-b2)))
+        | no h ↦ rw (le-ltb position (p .ndec1) (omega arith)) (pow-lt {i = p .b2} {j = 24} (omega (arith, kept .most-b2)))
+      ]
+
+-- 0 is no multiplier
+pub multiplier-zero : (p : Parameters) (position : ℕ) (z : ℤ) → leb (natAbs z) 0 ≡ true → false ≡ isMultiplier p position z
+multiplier-zero p position z e = rw (lt-leb 1 (natAbs z) (omega (arith, leb-true (natAbs z) 0 e)))
+
+-- another number is one where its size is within the bound
+pub multiplier-within : (p : Parameters) (position : ℕ) (z : ℤ) → leb (natAbs z) 0 ≡ false → leb (natAbs z) (multiplierBound p position) ≡ isMultiplier p position z
+multiplier-within p position z e = rw (le-leb 1 (natAbs z) (omega (arith, leb-false (natAbs z) 0 e)))
+
+-- the second of two tests that hold
+second-true : (t u : Bool) → t && u ≡ true → u ≡ true
+second-true true u e = e
+second-true false u e = let z : _≡_ {A = ℕ} 0 1 = cc in absurd (omega arith)
+
+-- an accepted check of multipliers
+pub accepted-multipliers : (p : Parameters) → Rules p → (offset : ℕ) (rs : List ℤ) (after : Outcome) → refuseFirst (isMultiplier p) 0 offset rs after ≡ accepted
+    → ((k : ℕ) → k < length rs → natAbs (getD rs k (pos 0)) < 2 ^ 24) × (after ≡ accepted)
+accepted-multipliers p kept offset rs after e =
+    let both = refuseFirst-accepted (isMultiplier p) 0 offset rs after e in (
+      λ k h.
+          let z = getD rs k (pos 0) in
+          let bound = multiplierBound p (0 + k) in
+          let within : natAbs z ≤ bound = leb-true (natAbs z) bound (second-true (leb 1 (natAbs z)) (leb (natAbs z) bound) (passing-all (isMultiplier p) 0 rs (pos 0) .0 (both .0) k h)) in
+          omega (arith, bound-small p kept (0 + k)),
+      both .1,
+    )

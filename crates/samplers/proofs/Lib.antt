@@ -1,0 +1,6 @@
+pub mod Continuing
+pub mod Part
+pub mod Uniform
+pub mod Drawing
+pub mod Values
+pub mod Answers

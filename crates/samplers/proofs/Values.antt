@@ -1,0 +1,115 @@
+-- Laws of the errors and multipliers drawn from a seed: their count, places and sizes, and the invariant of the loop that writes their residues.
+-- Assumes nothing.
+use mathlib.Core.Path.{_≡_, sym, ap, _∙_}
+use mathlib.Core.List.{List, map}
+use Prim.Native.Nat.{ℕ, suc, _+_, _*_, _/_, _%_, _^_, _≤_, _<_}
+use native.Mathlib.Nat.{zero-add, mod-lt, mul-le-mul-right, div-lt-iff-lt-mul}
+use native.Mathlib.Omega.{arith}
+use lib.IntN.{ℤ, pos, natAbs}
+use lib.ListN.{length, getD, set, length-map, List·getD-map}
+use lib.Pow.{pow-pos}
+use Rattle.maths.specs.Integer.{residue}
+use Rattle.calls.proofs.Filled.{Filled, filled-none, filled-more}
+use Rattle.sets.specs.declared.Parameters.{Parameters}
+use Rattle.sets.specs.Rules.{Rules}
+use Rattle.sets.specs.Derived.{multiplierCount, multiplierDrawBytes, errorDrawBytes}
+use Rattle.draws.specs.Small.{errorAt, multiplierBits, multiplierAt}
+use Rattle.draws.proofs.Bits.{error-most, multiplier-size, power-most}
+use Rattle.draws.proofs.Positions.{bits-most, turn-length, turn-at}
+use Rattle.source.specs.Source.{sourceBytes}
+use Rattle.samplers.specs.Seeded.{errorCount, errorByte, errorsOf, errorsDrawn, multipliersOf, multipliersDrawn}
+
+-- a place in rows of some numbers lies in a row of one byte more
+row-below : (place row rows : ℕ) → 0 < row → place < rows * row → place / row * (row + 1) + place % row < rows * (row + 1)
+row-below place row rows some h =
+    let i : suc (place / row) ≤ rows = div-lt-iff-lt-mul some .1 h in
+    let whole : suc (place / row) * (row + 1) ≤ rows * (row + 1) = mul-le-mul-right (row + 1) i in
+    omega (arith, mod-lt place some)
+
+-- a number of some bits and 1 more
+size-most : (bits number : ℕ) → number % 2 ^ bits + 1 ≤ 2 ^ bits
+size-most bits number = omega (arith, mod-lt number (pow-pos bits))
+
+module _ (p : Parameters) where
+  module _ (place : ℕ) (h : place < errorCount p) where
+    -- the byte of an error is one of those drawn
+    pub error-byte-below : Rules p → errorByte p place < errorDrawBytes p
+    unfolding errorCount errorByte errorDrawBytes
+    error-byte-below rules = row-below place (p .d + p .k) (p .t) (omega (arith, rules .some-d)) h
+
+    -- each error of the bytes
+    pub errors-at : (bytes : List ℕ) → getD (errorsOf p bytes) place (pos 0) ≡ errorAt bytes (errorByte p place)
+    unfolding errorsOf
+    errors-at bytes = turn-at _ 0 (errorCount p) place (pos 0) h ∙ rw zero-add
+
+  -- how many errors
+  pub errors-length : (bytes : List ℕ) → length (errorsOf p bytes) ≡ errorCount p
+  unfolding errorsOf
+  errors-length bytes = turn-length _ 0 (errorCount p)
+
+  -- how many multipliers
+  pub multipliers-length : (bytes : List ℕ) → length (multipliersOf p bytes) ≡ multiplierCount p
+  unfolding multipliersOf
+  multipliers-length bytes = turn-length _ 0 (multiplierCount p)
+
+  -- each multiplier of the bytes
+  pub multipliers-at : (position : ℕ) → position < multiplierCount p → (bytes : List ℕ) → getD (multipliersOf p bytes) position (pos 0) ≡ multiplierAt p bytes position
+  unfolding multipliersOf
+  multipliers-at position h bytes = turn-at _ 0 (multiplierCount p) position (pos 0) h ∙ rw zero-add
+
+  -- an error is at most 4 in size
+  pub error-size : (bytes : List ℕ) (byte : ℕ) → natAbs (errorAt bytes byte) ≤ 4
+  unfolding errorAt
+  error-size bytes byte = error-most (getD bytes byte 0)
+
+  -- a multiplier is 1 to 2^bits in size
+  pub multiplier-some : (bytes : List ℕ) (position : ℕ) → 1 ≤ natAbs (multiplierAt p bytes position)
+  unfolding multiplierAt
+  multiplier-some bytes position = rw multiplier-size (omega arith)
+
+  pub multiplier-most : (bytes : List ℕ) (position : ℕ) → natAbs (multiplierAt p bytes position) ≤ 2 ^ multiplierBits p position
+  unfolding multiplierAt
+  multiplier-most bytes position = rw multiplier-size (size-most (multiplierBits p position) _)
+
+  -- so it is at most 512
+  pub multiplier-512 : Rules p → (bytes : List ℕ) (position : ℕ) → natAbs (multiplierAt p bytes position) ≤ 512
+  multiplier-512 rules bytes position = omega (arith, multiplier-most bytes position, power-most (multiplierBits p position) (bits-most p rules position))
+
+  module _ (seed : List ℕ) where
+    module _ (counter : ℕ) where
+      -- how many errors a key has
+      pub errorsDrawn-length : length (errorsDrawn p seed counter) ≡ errorCount p
+      unfolding errorsDrawn
+      errorsDrawn-length = errors-length _
+
+      -- and their sizes
+      pub errorsDrawn-most : (place : ℕ) → place < errorCount p → natAbs (getD (errorsDrawn p seed counter) place (pos 0)) ≤ 4
+      unfolding errorsDrawn
+      errorsDrawn-most place h = rw (errors-at place h (sourceBytes p seed counter (errorDrawBytes p))) (error-size _ _)
+
+    -- how many multipliers a sealing has
+    pub multipliersDrawn-length : length (multipliersDrawn p seed) ≡ multiplierCount p
+    unfolding multipliersDrawn
+    multipliersDrawn-length = multipliers-length _
+
+    module _ (position : ℕ) (h : position < multiplierCount p) where
+      -- and their sizes
+      pub multipliersDrawn-some : 1 ≤ natAbs (getD (multipliersDrawn p seed) position (pos 0))
+      unfolding multipliersDrawn
+      multipliersDrawn-some = rw (multipliers-at position h (sourceBytes p seed 0 (multiplierDrawBytes p))) (multiplier-some _ _)
+
+      pub multipliersDrawn-most : natAbs (getD (multipliersDrawn p seed) position (pos 0)) ≤ 2 ^ multiplierBits p position
+      unfolding multipliersDrawn
+      multipliersDrawn-most = rw (multipliers-at position h (sourceBytes p seed 0 (multiplierDrawBytes p))) (multiplier-most _ _)
+
+-- the invariant of a loop that writes the residues of whole numbers
+abbrev pub Reduced : ℕ → List ℤ → List ℕ → ℕ → List ℕ → Type 0
+Reduced q zs old i new = Filled old 0 (length old) (map (residue q) zs) i new
+
+-- before the first number
+pub reduced-none : (q : ℕ) (zs : List ℤ) (old : List ℕ) → length zs ≡ length old → Reduced q zs old 0 old
+reduced-none q zs old e = filled-none (length-map zs (residue q) ∙ e) (omega arith)
+
+-- one number more
+pub reduced-more : (q : ℕ) (zs : List ℤ) {old : List ℕ} {i : ℕ} {new : List ℕ} {x : ℕ} (z : ℤ) → Reduced q zs old i new → i < length old → getD zs i (pos 0) ≡ z → x ≡ residue q z → Reduced q zs old (i + 1) (set new i x)
+reduced-more q zs {i = i} z t h e v = filled-more (residue q (pos 0)) t h (omega arith) (v ∙ ap (residue q) (sym e) ∙ sym (List·getD-map (residue q) zs i (pos 0)))

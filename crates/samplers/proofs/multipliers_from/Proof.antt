@@ -1,0 +1,26 @@
+-- `samplers::multipliers_from` meets its contract: the bytes are the first of a local array.
+-- Assumes nothing.
+use mathlib.Core.Path.{_∙_}
+use native.Mathlib.Omega.{arith}
+use Rattle.samplers.proofs.Part.{part-length}
+use borrow.Author.Needs.{needs}
+use Rattle.samplers.proofs.multipliers_from.Statement.{statement}
+use Rattle.samplers.proofs.multipliers_from.Tie as tie
+
+multipliers-through-requires : tie.Need-multipliers-through-requires
+multipliers-through-requires c κs =
+    let size = c .before .before .multiplier-draw-bytes in
+    let pre = c .before .before .before .before .before .pre in
+    (pre .0, pre .1, pre .2, part-length 15232 (size .result) (omega (arith, size .ensures, pre .1 .most-multiplier-bytes)) ∙ size .ensures, pre .3)
+
+pub multipliers-from-spec : {M : Type 1} → statement M
+multipliers-from-spec =
+    tie.close
+    (tie.spec
+    (λ c κs. search needs)
+    (λ c. search needs)
+    (λ c. search needs)
+    (λ c. search needs)
+    multipliers-through-requires
+    (λ c. search needs)
+    (λ c. search needs))

@@ -1,0 +1,77 @@
+// The draws from a seed: uniform residues block after block, errors and multipliers (003, section 2.2.3, algorithms 6 to 10; specs/Seeded.antt).
+use sets::Parameters;
+ghost use mathlib.Core.Path.{_≡_};
+ghost use mathlib.Core.List.{List, map};
+ghost use Prim.Native.Nat.{ℕ, _+_, _^_, _≤_, _<_};
+ghost use lib.ListN.{length};
+ghost use Rattle.maths.specs.Integer.{residue};
+ghost use Rattle.sets.specs.Rules.{Rules, ByteRules};
+ghost use Rattle.sets.specs.Derived.{multiplierCount};
+ghost use Rattle.draws.specs.Uniform.{taken};
+ghost use Rattle.samplers.specs.Blocks.{onward, uniform, uniformAnswer};
+ghost use Rattle.samplers.specs.Seeded.{errorCount, errorsDrawn, multipliersDrawn};
+
+mod block;
+mod small;
+
+// What a uniform draw from a seed answers: the counter afterwards, or the number of a refusal.
+pub enum Advance {
+    Counter(u32),
+    Refused(u8),
+}
+
+// What one block of a uniform draw answers: all results are there; so many are, with a run of candidates set aside; or the run is too long.
+pub enum Progress {
+    All,
+    More(usize, u32),
+    Exhausted,
+}
+
+// Draws a uniform residue for each number of `out`, from blocks of `size` bytes, the first of them with the counter `first`.
+pub fn residues_from(
+    p: Parameters,
+    seed: &[u8],
+    size: usize,
+    first: u32,
+    out: &mut [u32],
+) -> Advance
+    requires { ⌜ Rules p × (length (now seed) ≤ 65536) × (384 ≤ size) × (size ≤ 10158) × (0 < length (now out)) × (first + length (now out) < 2 ^ 32) ⌝ }
+    ensures answer { λ r. ⌜ onward r ≡ uniformAnswer p (now (seed .entry)) size first (length (now (out .entry))) ⌝ }
+    ensures result { λ _. ⌜ ((xs : List ℕ) → uniform p (now (seed .entry)) size first (length (now (out .entry))) ≡ taken xs → now (out .exit) ≡ xs) ⌝ }
+{
+    let mut counter = first;
+    let mut done: usize = 0;
+    let mut run: u32 = 0;
+    loop {
+        let progress = block::draw_block(p, seed, size, counter, done, run, out);
+        counter += 1;
+        match progress {
+            Progress::All => return Advance::Counter(counter),
+            Progress::Exhausted => return Advance::Refused(5),
+            Progress::More(reached, aside) => {
+                done = reached;
+                run = aside;
+            }
+        }
+    }
+}
+
+// Draws all errors of one key, as residues.
+pub fn errors_from(p: Parameters, seed: &[u8], counter: u32, out: &mut [u32])
+    requires { ⌜ Rules p × ByteRules p × (length (now seed) ≤ 65536) × (length (now out) ≡ errorCount p) ⌝ }
+    ensures { λ _. ⌜ now (out .exit) ≡ map (residue (p .q)) (errorsDrawn p (now (seed .entry)) counter) ⌝ }
+{
+    let size = small::error_draw_bytes(p);
+    let mut bytes = [0u8; 10240];
+    small::errors_through(p, seed, counter, &mut bytes[0..size], out);
+}
+
+// Draws all multipliers of one sealing, as residues.
+pub fn multipliers_from(p: Parameters, seed: &[u8], out: &mut [u32])
+    requires { ⌜ Rules p × ByteRules p × (length (now seed) ≤ 65536) × (length (now out) ≡ multiplierCount p) ⌝ }
+    ensures { λ _. ⌜ now (out .exit) ≡ map (residue (p .q)) (multipliersDrawn p (now (seed .entry))) ⌝ }
+{
+    let size = small::multiplier_draw_bytes(p);
+    let mut bytes = [0u8; 15232];
+    small::multipliers_through(p, seed, &mut bytes[0..size], out);
+}

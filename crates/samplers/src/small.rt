@@ -1,0 +1,97 @@
+// Errors and multipliers from the bytes of a seed, as residues (specs/Seeded.antt).
+use sets::Parameters;
+ghost use mathlib.Core.Path.{_≡_};
+ghost use mathlib.Core.List.{map};
+ghost use Prim.Native.Nat.{_≤_, _<_};
+ghost use lib.ListN.{length};
+ghost use Rattle.maths.specs.Integer.{residue};
+ghost use Rattle.sets.specs.Rules.{Rules, ByteRules};
+ghost use Rattle.sets.specs.Derived.{multiplierCount, multiplierDrawBytes, errorDrawBytes};
+ghost use Rattle.draws.specs.Small.{errorAt, multiplierAt};
+ghost use Rattle.samplers.specs.Seeded.{errorCount, errorByte, errorsOf, errorsDrawn, multipliersOf, multipliersDrawn};
+
+// The bytes that all errors of one key are drawn from.
+pub fn error_draw_bytes(p: Parameters) -> usize
+    requires { ⌜ Rules p × ByteRules p ⌝ }
+    ensures { λ r. ⌜ r ≡ errorDrawBytes p ⌝ }
+{
+    p.t * (p.d + p.k + 1)
+}
+
+// The byte that the error at a place takes.
+fn error_byte(p: Parameters, place: usize) -> usize
+    requires { ⌜ Rules p × ByteRules p × (place < errorCount p) ⌝ }
+    ensures { λ r. ⌜ (r ≡ errorByte p place) × (r < errorDrawBytes p) ⌝ }
+{
+    let row = p.d + p.k;
+    place / row * (row + 1) + place % row
+}
+
+// The error at a place.
+fn error_residue(p: Parameters, bytes: &[u8], place: usize) -> u32
+    requires { ⌜ Rules p × ByteRules p × (length (now bytes) ≡ errorDrawBytes p) × (place < errorCount p) ⌝ }
+    ensures { λ r. ⌜ r ≡ residue (p .q) (errorAt (now (bytes .entry)) (errorByte p place)) ⌝ }
+{
+    let at = error_byte(p, place);
+    residues::of_signed(draws::small::error_of(bytes[at]), p.q)
+}
+
+// All errors of one key.
+fn fill_errors(p: Parameters, bytes: &[u8], out: &mut [u32])
+    requires { ⌜ Rules p × ByteRules p × (length (now bytes) ≡ errorDrawBytes p) × (length (now out) ≡ errorCount p) ⌝ }
+    ensures { λ _. ⌜ now (out .exit) ≡ map (residue (p .q)) (errorsOf p (now (bytes .entry))) ⌝ }
+{
+    let mut i: usize = 0;
+    while i < out.len() {
+        out[i] = error_residue(p, bytes, i);
+        i += 1;
+    }
+}
+
+// All errors of one key, whose bytes are read into `bytes`.
+pub fn errors_through(p: Parameters, seed: &[u8], counter: u32, bytes: &mut [u8], out: &mut [u32])
+    requires { ⌜ Rules p × ByteRules p × (length (now seed) ≤ 65536) × (length (now bytes) ≡ errorDrawBytes p) × (length (now out) ≡ errorCount p) ⌝ }
+    ensures { λ _. ⌜ now (out .exit) ≡ map (residue (p .q)) (errorsDrawn p (now (seed .entry)) counter) ⌝ }
+{
+    source::source_bytes(p, seed, counter, bytes);
+    fill_errors(p, bytes, out);
+}
+
+// The bytes that all multipliers of one sealing are drawn from.
+pub fn multiplier_draw_bytes(p: Parameters) -> usize
+    requires { ⌜ Rules p × ByteRules p ⌝ }
+    ensures { λ r. ⌜ r ≡ multiplierDrawBytes p ⌝ }
+{
+    let count = sets::derived::multiplier_count(p);
+    let width = sets::derived::multiplier_bytes(p);
+    count * width + count / 8
+}
+
+// The multiplier at a position.
+fn multiplier_residue(p: Parameters, bytes: &[u8], position: usize) -> u32
+    requires { ⌜ Rules p × ByteRules p × (length (now bytes) ≡ multiplierDrawBytes p) × (position < multiplierCount p) ⌝ }
+    ensures { λ r. ⌜ r ≡ residue (p .q) (multiplierAt p (now (bytes .entry)) position) ⌝ }
+{
+    residues::of_signed(draws::small::multiplier_at(p, bytes, position), p.q)
+}
+
+// All multipliers of one sealing.
+fn fill_multipliers(p: Parameters, bytes: &[u8], out: &mut [u32])
+    requires { ⌜ Rules p × ByteRules p × (length (now bytes) ≡ multiplierDrawBytes p) × (length (now out) ≡ multiplierCount p) ⌝ }
+    ensures { λ _. ⌜ now (out .exit) ≡ map (residue (p .q)) (multipliersOf p (now (bytes .entry))) ⌝ }
+{
+    let mut i: usize = 0;
+    while i < out.len() {
+        out[i] = multiplier_residue(p, bytes, i);
+        i += 1;
+    }
+}
+
+// All multipliers of one sealing, whose bytes are read into `bytes`.
+pub fn multipliers_through(p: Parameters, seed: &[u8], bytes: &mut [u8], out: &mut [u32])
+    requires { ⌜ Rules p × ByteRules p × (length (now seed) ≤ 65536) × (length (now bytes) ≡ multiplierDrawBytes p) × (length (now out) ≡ multiplierCount p) ⌝ }
+    ensures { λ _. ⌜ now (out .exit) ≡ map (residue (p .q)) (multipliersDrawn p (now (seed .entry))) ⌝ }
+{
+    source::source_bytes(p, seed, 0, bytes);
+    fill_multipliers(p, bytes, out);
+}

@@ -1,0 +1,42 @@
+-- What is stored comes back: sent with the inverse of a set's root and recovered with the root, and the other way round.
+-- Assumes nothing.
+use mathlib.Core.Path.{_≡_}
+use mathlib.Core.List.{List}
+use Prim.Native.Nat.{ℕ, _%_, _≤_, _<_}
+use native.Mathlib.Omega.{arith}
+use lib.ListN.{length, take}
+use Rattle.maths.specs.Vector.{at}
+use Rattle.maths.specs.Transform as transforms
+use Rattle.maths.proofs.Vector.{tabulate-take}
+use Rattle.maths.proofs.Transform.{recover-send-at, recover-send, recover-send-inverse}
+use Rattle.transforms.specs.Ready.{AllBelow}
+use Rattle.sets.specs.Table.{setOf}
+use Rattle.sets.specs.Derived.{transformSize}
+use Rattle.transformed.specs.Stored.{rowCount, sent, sentInverse, recovered, recoveredInverse}
+use Rattle.transformed.proofs.Sizes.{size-rows, rows-root, rows-root-inverse}
+
+module _ (set : ℕ) (low : set < 13) (i m : ℕ) (xs : List ℕ) where
+  -- a number of a vector that was stored with the inverse of the root
+  pub recovered-at : (j : ℕ) → j < m → j < transformSize (setOf set) i → at (recovered (setOf set) i m (sentInverse (setOf set) i xs)) j ≡ at xs j % setOf set .q
+  unfolding sentInverse recovered
+  recovered-at j h k = recover-send-at (setOf set .row) (rowCount (setOf set) i) (rows-root-inverse set low i) m xs j h (omega (arith, size-rows set low i))
+
+  -- a vector of residues that was stored with the inverse of the root
+  pub recovered-whole : length xs ≡ m → m ≤ transformSize (setOf set) i → AllBelow (setOf set .q) m xs → recovered (setOf set) i m (sentInverse (setOf set) i xs) ≡ xs
+  unfolding sentInverse recovered
+  recovered-whole size fits below = recover-send-inverse (setOf set .row) (rowCount (setOf set) i) (rows-root set low i) m xs size (omega (arith, size-rows set low i)) (below .each)
+
+  -- a vector of residues that was stored with the root
+  pub recoveredInverse-whole : length xs ≡ m → m ≤ transformSize (setOf set) i → AllBelow (setOf set .q) m xs → recoveredInverse (setOf set) i m (sent (setOf set) i xs) ≡ xs
+  unfolding sent recoveredInverse
+  recoveredInverse-whole size fits below = recover-send (setOf set .row) (rowCount (setOf set) i) (rows-root set low i) m xs size (omega (arith, size-rows set low i)) (below .each)
+
+-- the first m of all numbers that are recovered
+module _ (set i m : ℕ) (xs : List ℕ) (fits : m ≤ transformSize (setOf set) i) where
+  pub recovered-take : take m (recovered (setOf set) i (transformSize (setOf set) i) xs) ≡ recovered (setOf set) i m xs
+  unfolding recovered transforms.recover
+  recovered-take = tabulate-take m (transformSize (setOf set) i) _ fits
+
+  pub recoveredInverse-take : take m (recoveredInverse (setOf set) i (transformSize (setOf set) i) xs) ≡ recoveredInverse (setOf set) i m xs
+  unfolding recoveredInverse transforms.recover
+  recoveredInverse-take = tabulate-take m (transformSize (setOf set) i) _ fits
