@@ -1,0 +1,6 @@
+fn main() {
+    let root = std::env::var("CARGO_MANIFEST_DIR").unwrap();
+    println!("cargo:rustc-link-search=native={root}/../target/staticlib");
+    println!("cargo:rustc-link-lib=static=measured");
+    println!("cargo:rerun-if-changed={root}/../target/staticlib/libmeasured.a");
+}
