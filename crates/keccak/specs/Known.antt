@@ -1,8 +1,7 @@
 -- A known answer: Keccak-f[1600] of the zero state, as the designers of Keccak publish it.
 -- Assumes nothing.
 use mathlib.Core.Path.{_≡_, refl}
-use mathlib.Core.List.{List, [], _∷_}
-use Prim.Native.Nat.{ℕ}
+use mathlib.Core.List.{[], _∷_}
 use Rattle.keccak.specs.Lane.{rotl, state}
 use Rattle.keccak.specs.Keccak.{C, D, θ, offsets, ρ, π, χ, roundConstants, RC, ι, Rnd, rounds, keccakF}
 

@@ -10,7 +10,7 @@ use native.Mathlib.Omega.{arith}
 use borrow.Author.Tests.{eqb-true, eqb-false, not-true}
 use lib.Dec.{eqb}
 use lib.ListN.{length, getD}
-use Rattle.maths.specs.Vector.{at, tabulate}
+use Rattle.maths.specs.Vector.{at}
 use Rattle.maths.specs.Congruence.{Mod}
 use Rattle.maths.specs.Prime.{Prime}
 use Rattle.maths.specs.Root.{RootOfOrder, powerTable, inverseRoot, inverseSize, continues, isPowerTable}

@@ -1,7 +1,6 @@
 // What the programs that run known answers print: words, numbers, bytes in hexadecimal, answers of open calls, and checksums of long outputs.
 use calls::Answer;
 use libc::STDOUT_FILENO;
-ghost use mathlib.Core.Path.{_≡_};
 ghost use Prim.Native.Nat.{_<_, _≤_};
 ghost use lib.ListN.{length};
 

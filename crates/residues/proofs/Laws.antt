@@ -1,7 +1,7 @@
 -- Laws of residues modulo q: each result is below q, and a number below 2 · q is reduced by one subtraction.
 -- Assumes nothing.
 use mathlib.Core.Path.{_≡_, sym, _∙_}
-use Prim.Native.Nat.{ℕ, _+_, _-_, _*_, _%_, _≤_, _<_}
+use Prim.Native.Nat.{ℕ, _-_, _*_, _%_, _≤_, _<_}
 use native.Mathlib.Nat.{mod-lt, mod-eq-of-lt, mod-eq-sub-mod, mul-le-mul-left, mul-lt-mul-of-pos-right, lt-of-le-of-lt}
 use native.Mathlib.Omega.{arith}
 

@@ -10,7 +10,7 @@ use Rattle.maths.proofs.PowerTable.{root-of-table}
 use Rattle.calls.specs.Checks.{allOf}
 use Rattle.calls.proofs.Checks.{Each}
 use Rattle.sets.specs.declared.Parameters.{Parameters}
-use Rattle.sets.specs.Table.{none, table, setOf}
+use Rattle.sets.specs.Table.{table, setOf}
 use Rattle.sets.specs.Derived.{transformSize, transformRoot}
 use Rattle.sets.specs.Rules.{Rules}
 use Rattle.sets.proofs.Tested.{passed, at-each}

@@ -1,8 +1,8 @@
 -- The claim for the key exchange: key, encapsulation and decapsulation (01, What demand 3 speaks of), for any parameters that meet the conditions.
 -- Assumes nothing.
 use mathlib.Core.Path.{_≡_, refl, ap, _∙_}
-use mathlib.Core.Bool.{Bool, true, cond}
-use mathlib.Core.List.{List, [], _∷_, _++_}
+use mathlib.Core.Bool.{true}
+use mathlib.Core.List.{List, [], _∷_}
 use Prim.Native.Nat.{ℕ, _*_, _<_}
 use borrow.Author.Tests.{eq-eqb}
 use lib.IntN.{natAbs}
@@ -15,7 +15,7 @@ use Rattle.scheme.specs.Encryption.{secretSeed, ciphertext, readMessage}
 use Rattle.scheme.specs.Noise.{noise}
 use Rattle.scheme.specs.Conditions.{Conditions}
 use Rattle.scheme.specs.Claim.{messageRead, Claim}
-use Rattle.scheme.specs.Exchange.{innerSeed, exchangePublicKey, exchangeSecretKey, sealingSeed, checkBytes, sharedHash, encapsulated, sharedKey, same, rejectBytes, decapsulatedMessage, hashedSecret, decapsulated}
+use Rattle.scheme.specs.Exchange.{innerSeed, exchangePublicKey, exchangeSecretKey, sealingSeed, checkBytes, encapsulated, sharedKey, same, decapsulatedMessage, hashedSecret, decapsulated}
 use Rattle.scheme.proofs.Bytes.{ciphertext-length}
 use Rattle.scheme.proofs.Claim as claims
 

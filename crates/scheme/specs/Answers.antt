@@ -4,15 +4,15 @@ use mathlib.Core.Bool.{Bool, true, false, not, _&&_}
 use mathlib.Core.List.{List, [], _∷_}
 use Prim.Native.Nat.{ℕ, zero, suc, _+_, _*_}
 use lib.Dec.{ltb, eqb}
-use lib.ListN.{length, take, drop, replicate}
-use Rattle.calls.specs.Outcome.{Outcome, accepted, refused, refuse, leaves}
+use lib.ListN.{length, replicate}
+use Rattle.calls.specs.Outcome.{Outcome, accepted, refuse, leaves}
 use Rattle.calls.specs.Checks.{allOf, passing, below}
 use Rattle.sets.specs.declared.Parameters.{Parameters}
 use Rattle.sets.specs.Table.{setOf}
-use Rattle.sets.specs.Derived.{isEncryption, isExchange, publicKeyBytes, secretKeyBytes, ciphertextBytes}
+use Rattle.sets.specs.Derived.{isEncryption, publicKeyBytes, secretKeyBytes, ciphertextBytes}
 use Rattle.draws.specs.Uniform.{Drawn, taken, ended, exhausted}
 use Rattle.samplers.specs.Seeded.{secretDrawn, publicDrawn}
-use Rattle.scheme.specs.Encryption.{secretSeed, publicSeed, publicKey, keySeed, keyNumbers, ciphertext, cipherFirst, readMessage}
+use Rattle.scheme.specs.Encryption.{secretSeed, publicSeed, keySeed, keyNumbers, cipherFirst}
 
 -- 1 when the set is not 1 to 12, then 8 when it is not one of the scheme called
 unfoldable pub refuseSet : (ℕ → Bool) → ℕ → Outcome → Outcome

@@ -13,7 +13,7 @@ use Rattle.maths.proofs.Prime.{prime}
 use Rattle.calls.specs.Checks.{allOf}
 use Rattle.calls.proofs.Checks.{Each}
 use Rattle.sets.specs.declared.Parameters.{Parameters}
-use Rattle.sets.specs.Table.{none, table, setOf}
+use Rattle.sets.specs.Table.{table, setOf}
 use Rattle.sets.specs.Derived.{halfModulus, multiplierCount, multiplierBytes, multiplierDrawBytes, errorDrawBytes, packedBytes, publicKeyBytes, sealedBytes}
 use Rattle.sets.specs.Rules.{Rules, ByteRules}
 use Rattle.sets.proofs.Tested.{passed, at-each}

@@ -1,7 +1,7 @@
 -- Numbers that follow from a set's parameters: 003, sections 2.2.2 (N_dec), 2.2.3 (algorithms 9 and 10) and 3.1 (byte lengths).
 -- Assumes nothing.
 use mathlib.Core.Path.{_≡_, refl}
-use mathlib.Core.Bool.{Bool, true, false, cond}
+use mathlib.Core.Bool.{Bool, false, cond}
 use mathlib.Core.List.{List, [], _∷_, map}
 use Prim.Native.Nat.{ℕ, _+_, _-_, _*_, _/_, max}
 use lib.Dec.{leb, eqb}

@@ -1,7 +1,7 @@
 -- The rules that the parameters of a set keep, on which every later proof rests (003, sections 2.1.2, 2.2.2, 3.2 and 3.4.3).
 -- Assumes nothing.
 use mathlib.Core.Path.{_≡_}
-use Prim.Native.Nat.{ℕ, _+_, _-_, _*_, _/_, _%_, _^_, _≤_, _<_}
+use Prim.Native.Nat.{_+_, _-_, _*_, _/_, _%_, _^_, _≤_, _<_}
 use Rattle.maths.specs.Prime.{Prime}
 use Rattle.sets.specs.declared.Parameters.{Parameters}
 use Rattle.sets.specs.Derived.{halfModulus, multiplierCount, multiplierBytes, multiplierDrawBytes, errorDrawBytes, publicKeyBytes, sealedBytes}

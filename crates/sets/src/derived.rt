@@ -2,7 +2,6 @@
 use crate::Parameters;
 ghost use mathlib.Core.Path.{_≡_};
 ghost use Prim.Native.Nat.{_*_, _<_, _≤_, _^_};
-ghost use Rattle.sets.specs.Table.{setOf};
 ghost use Rattle.sets.specs.Rules.{Rules};
 ghost use Rattle.sets.specs.Derived.{halfModulus, transformSize, transformRoot, multiplierCount, multiplierBytes, packedBytes, publicKeyBytes, sealedBytes, isEncryption, isExchange, secretKeyBytes, ciphertextBytes};
 

@@ -8,7 +8,7 @@ use borrow.Author.Tests.{le-leb, lt-leb, leb-true}
 use lib.Dec.{leb}
 use lib.ListN.{getD}
 use Rattle.calls.specs.declared.Answer.the-variants.{Done, Refused}
-use Rattle.calls.specs.Outcome.{outcome, accepted, refused, leaves}
+use Rattle.calls.specs.Outcome.{outcome, leaves}
 use Rattle.calls.proofs.Checks.{allOf-false, each-allOf, allOf-each}
 use Rattle.sponge.specs.Answers.{within, spongeAnswer}
 

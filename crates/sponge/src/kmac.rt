@@ -1,7 +1,7 @@
 // The encodings of SP 800-185, and what KMAC256 and KMACXOF256 share.
 ghost use mathlib.Core.Path.{_≡_};
 ghost use mathlib.Core.List.{_++_};
-ghost use Prim.Native.Nat.{ℕ, _+_, _-_, _%_, _^_, _<_, _≤_};
+ghost use Prim.Native.Nat.{_+_, _-_, _%_, _^_, _<_, _≤_};
 ghost use lib.ListN.{length, replicate};
 ghost use Rattle.sponge.specs.Kmac.{leftEncode, rightEncode, encodeString, bytepad, kmacOf};
 ghost use Rattle.sponge.specs.Absorbed.{Ready, Fed};

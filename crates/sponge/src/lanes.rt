@@ -3,7 +3,7 @@ ghost use mathlib.Core.Path.{_≡_};
 ghost use Prim.Native.Nat.{_+_, _*_, _≤_};
 ghost use lib.ListN.{length};
 ghost use Rattle.maths.specs.Vector.{at};
-ghost use Rattle.keccak.specs.Lane.{_⊕_, five, state};
+ghost use Rattle.keccak.specs.Lane.{_⊕_, five};
 ghost use Rattle.maths.specs.Bytes.{bytesOf};
 ghost use Rattle.sponge.specs.Sponge.{laneOf, mixed, lanes};
 use crate::block::copy_at;

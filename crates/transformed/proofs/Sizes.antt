@@ -1,7 +1,6 @@
 -- What the transforms ask holds for every set from 0 to 12 and each of its three sizes, with the root and with its inverse.
 -- Assumes nothing.
 use mathlib.Core.Path.{_≡_, refl, _∙_}
-use mathlib.Core.Bool.{Bool, true, false, cond}
 use mathlib.Core.List.{List}
 use Prim.Native.Nat.{ℕ, zero, suc, _-_, _*_, _/_, _^_, _≤_, _<_}
 use native.Mathlib.Nat.{mod-mod, pow-suc, pow-zero, one-mul}

@@ -11,7 +11,7 @@ use lib.Seq.{length-take-le}
 use Rattle.maths.specs.Vector.{at, tabulate}
 use Rattle.maths.proofs.Vector.{tabulate-length, tabulate-at, equal-by-place}
 use Rattle.calls.specs.Region.{over}
-use Rattle.calls.proofs.Region.{over-inside, over-outside, over-length}
+use Rattle.calls.proofs.Region.{over-inside, over-outside}
 use Rattle.calls.proofs.Filled.{Filled}
 
 module _ {n b j : ℕ} (a i : ℕ) (h : b < n) (k : j < n) (e : a * n + b ≡ i * n + j) where
@@ -46,10 +46,6 @@ module _ (xs : List ℕ) (n : ℕ) (f : ℕ → ℕ) (fits : n ≤ length xs) wh
   -- each of them
   pub front-at : (i : ℕ) → i < n → at (over xs 0 (tabulate n f)) i ≡ f i
   front-at i h = rw zero-add at (over-inside xs 0 (tabulate n f) front-fits i 0 (rw tabulate-length h)) ∙ tabulate-at n f i h
-
-  -- the length stays
-  pub front-length : length (over xs 0 (tabulate n f)) ≡ length xs
-  front-length = over-length xs 0 (tabulate n f) front-fits
 
 -- the places of a list whose front was written by a formula
 pub loaded : {column : List ℕ} (zeros : List ℕ) (m : ℕ) (f : ℕ → ℕ) → column ≡ over zeros 0 (tabulate m f) → m ≤ length zeros → (j : ℕ) → j < m → f j ≡ at column j

@@ -34,7 +34,6 @@ module _ {q ρ δ w : ℕ} {powers : List ℕ} (ready : Ready q ρ δ w powers) 
   pub roots-ready : {roots : List ℕ} (e : ℕ) → e < q → length roots ≡ 16 → RootsReady q ρ δ e powers roots
   roots-ready e h size =
       record {
-        some-modulus = ready .some-modulus;
         modulus = ready .modulus;
         scale = h;
         some-row = some-row ready;

@@ -56,7 +56,6 @@ pub record Columns (q ρ δ m : ℕ) (roots old new : List ℕ) : Type 0 where
 
 -- the powers of a column's root, which are ρ places apart in the table, and a scale e
 pub record RootsReady (q ρ δ e : ℕ) (powers roots : List ℕ) : Type 0 where
-  pub some-modulus : 1 < q
   pub modulus : q < 2 ^ 24
   pub scale : e < q
   pub some-row : 0 < ρ

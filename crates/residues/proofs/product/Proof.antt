@@ -1,6 +1,5 @@
 -- `residues::product` meets its contract: the product of two numbers of 32 bits fits 64.
 -- Assumes nothing.
-use native.Mathlib.Omega.{arith}
 use borrow.Author.Needs.{needs}
 use Rattle.residues.proofs.Laws.{product-below}
 use Rattle.residues.proofs.product.Statement.{statement}

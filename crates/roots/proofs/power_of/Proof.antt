@@ -4,7 +4,6 @@ use mathlib.Core.Path.{_∙_, ap}
 use mathlib.Core.List.{List}
 use Prim.Native.Nat.{ℕ}
 use borrow.Author.Needs.{needs}
-use native.Mathlib.Omega.{arith}
 use Rattle.maths.specs.Vector.{at}
 use Rattle.maths.proofs.PowerTable.{powerTable-at}
 use Rattle.sets.specs.Derived as derived

@@ -1,7 +1,6 @@
 -- Both comparisons of the code are those of the definition.
 -- Assumes nothing.
 use borrow.Author.Tests.{le-leb, lt-leb}
-use borrow.Author.Needs.{needs}
 use Rattle.sets.specs.Derived.{isEncryption}
 use Rattle.sets.proofs.derived.is_encryption.Statement.{statement}
 use Rattle.sets.proofs.derived.is_encryption.Tie as tie

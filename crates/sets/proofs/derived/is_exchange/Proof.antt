@@ -1,6 +1,5 @@
 -- Both comparisons of the code are those of the definition.
 -- Assumes nothing.
-use borrow.Author.Needs.{needs}
 use borrow.Author.Tests.{le-leb, lt-leb}
 use Rattle.sets.specs.Derived.{isExchange}
 use Rattle.sets.proofs.derived.is_exchange.Tie as tie

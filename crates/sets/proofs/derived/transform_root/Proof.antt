@@ -1,7 +1,6 @@
 -- Each arm of the match gives the root of its number.
 -- Assumes nothing.
 use native.Mathlib.Omega.{arith}
-use borrow.Author.Needs.{needs}
 use Rattle.sets.proofs.Transforms.{root-first, root-second, root-third}
 use Rattle.sets.proofs.derived.transform_root.Statement.{statement}
 use Rattle.sets.proofs.derived.transform_root.Tie as tie

@@ -1,7 +1,6 @@
 -- Each arm of the match gives the size of its number.
 -- Assumes nothing.
 use native.Mathlib.Omega.{arith}
-use borrow.Author.Needs.{needs}
 use Rattle.sets.proofs.Transforms.{size-first, size-second, size-third}
 use Rattle.sets.proofs.derived.transform_size.Statement.{statement}
 use Rattle.sets.proofs.derived.transform_size.Tie as tie
