@@ -1,5 +1,6 @@
 //! Transforms by columns and rows, middle products, and the two roundings.
 
+use crate::draws::{refusal, Refusal};
 use crate::parameters::Set;
 
 /// A transform of one size of a set, with the powers of its root.
@@ -116,6 +117,53 @@ pub fn middle_product(q: u64, a: &[u32], b: &[u32], results: usize) -> Vec<u32> 
             sum as u32
         })
         .collect()
+}
+
+/// The lengths of the output of a middle product and, for the transformed one, of the work slice.
+pub struct Lengths {
+    pub results: usize,
+    pub work: Option<usize>,
+}
+
+/// What an open call of the middle product does: its answer, and whether the work slice was cleared.
+pub struct Given {
+    pub product: Result<Vec<u32>, Refusal>,
+    pub cleared: bool,
+}
+
+/// The checks of the set and the lengths.
+fn middle_product_fits(set: Option<Set>, a: usize, b: usize, lengths: &Lengths) -> Result<Set, Refusal> {
+    let Some(s) = set else {
+        return refusal(1, 0);
+    };
+    let largest = a.max(b).max(lengths.results);
+    if a == 0 || lengths.results == 0 || largest > 4096 || b + 1 != a + lengths.results {
+        return refusal(6, 0);
+    }
+    match lengths.work {
+        Some(work) if work != s.sizes[2] => refusal(6, 0),
+        Some(_) if b > s.sizes[2] => refusal(7, 0),
+        _ => Ok(s),
+    }
+}
+
+/// The first number that is out of range.
+pub fn first_wrong(mut numbers: impl Iterator<Item = bool>) -> Result<(), Refusal> {
+    match numbers.position(|right| !right) {
+        Some(place) => refusal(3, place),
+        None => Ok(()),
+    }
+}
+
+/// The open call of the middle product, plain or (with a work slice) transformed.
+pub fn middle_product_call(set: Option<Set>, a: &[u32], b: &[u32], lengths: Lengths) -> Given {
+    match middle_product_fits(set, a.len(), b.len(), &lengths) {
+        Err(refused) => Given { product: Err(refused), cleared: false },
+        Ok(s) => {
+            let checked = first_wrong(a.iter().chain(b).map(|&x| (x as u64) < s.q));
+            Given { product: checked.map(|()| middle_product(s.q, a, b, lengths.results)), cleared: true }
+        }
+    }
 }
 
 /// 003's Round on the centred residue, for sets 1 to 12; 01's formula for set 0.

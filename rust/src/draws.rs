@@ -22,7 +22,16 @@ pub struct Source {
 
 impl Source {
     pub fn new(seed: &[u8]) -> Self {
-        Source { seed: seed.to_vec(), counter: 0 }
+        Source::at(seed, 0)
+    }
+
+    /// A source that goes on from a counter.
+    pub fn at(seed: &[u8], counter: u32) -> Self {
+        Source { seed: seed.to_vec(), counter }
+    }
+
+    pub fn counter(&self) -> u32 {
+        self.counter
     }
 
     pub fn out(&mut self, length: usize) -> Vec<u8> {
@@ -37,7 +46,7 @@ impl Source {
 const LONGEST_RUN: u32 = 128;
 
 /// Uniform residues from candidates of three bytes; `more` is asked for further bytes when a block is used up.
-fn uniform(s: &Set, wanted: usize, mut block: Vec<u8>, mut more: impl FnMut() -> Option<Vec<u8>>) -> Result<Vec<u32>, Refusal> {
+pub fn uniform(s: &Set, wanted: usize, mut block: Vec<u8>, mut more: impl FnMut() -> Option<Vec<u8>>) -> Result<Vec<u32>, Refusal> {
     let mut results = Vec::new();
     let (mut at, mut run) = (0, 0);
     while results.len() < wanted {

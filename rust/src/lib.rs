@@ -4,6 +4,7 @@
 pub mod arithmetic;
 pub mod draws;
 pub mod expected;
+pub mod numbers;
 pub mod packing;
 pub mod parameters;
 pub mod scheme;

@@ -1,8 +1,8 @@
 // What the programs that run known answers print: words, numbers, bytes in hexadecimal, answers of open calls, and checksums of long outputs.
 use calls::Answer;
 use libc::STDOUT_FILENO;
-ghost use Prim.Native.Nat.{_<_, _≤_};
-ghost use lib.ListN.{length};
+ghost use Prim.Native.Nat.{ℕ, _+_, _*_, _<_, _≤_};
+ghost use lib.ListN.{length, getD};
 
 // Prints a text as it is.
 pub fn text(bytes: &[u8]) {
@@ -127,6 +127,18 @@ pub fn fill_bytes(values: &mut [u8], start: usize)
     }
 }
 
+// Makes `count` candidates from number `first` on such that a draw sets them aside.
+pub fn set_aside(bytes: &mut [u8], first: usize, count: usize)
+    requires { ⌜ (first ≤ 1000) × (count ≤ 1000) × (3 * (first + count) ≤ length (now bytes)) ⌝ }
+{
+    let end = 3 * (first + count);
+    let mut i = 3 * first;
+    while i < end {
+        bytes[i] = 255;
+        i += 1;
+    }
+}
+
 // Fills numbers with 7, which shows where a call wrote nothing.
 pub fn fill_numbers(values: &mut [u32]) {
     let mut i: usize = 0;
@@ -141,6 +153,29 @@ pub fn fill_signed(values: &mut [i32]) {
     let mut i: usize = 0;
     while i < values.len() {
         values[i] = 7;
+        i += 1;
+    }
+}
+
+// The number after x in the generator of inputs.
+fn after(x: u64) -> u64
+    requires { ⌜ x < 2147483648 ⌝ }
+    ensures { λ r. ⌜ r < 2147483648 ⌝ }
+{
+    (x * 1103515245 + 12345) % 2147483648
+}
+
+// Fills numbers with residues from the generator, which goes on from `start`.
+pub fn fill_residues(values: &mut [u32], start: u64, q: u32)
+    requires { ⌜ (start < 2147483648) × (0 < q) ⌝ }
+    ensures { λ _. ⌜ ((i : ℕ) → i < length (now (values .exit)) → getD (now (values .exit)) i 0 < q) ⌝ }
+{
+    let mut x = start;
+    let mut i: usize = 0;
+    while i < values.len() {
+        x = after(x);
+        let value = residues::reduce(x, q);
+        values[i] = value;
         i += 1;
     }
 }

@@ -1,19 +1,7 @@
 // Runs the draws over lent bytes: every set, every refusal, lengths one under and one over, and runs of candidates set aside.
 ghost use mathlib.Core.Path.{_≡_};
-ghost use Prim.Native.Nat.{_+_, _*_, _/_, _≤_, _<_};
+ghost use Prim.Native.Nat.{_≤_};
 ghost use lib.ListN.{length};
-
-// Makes `count` candidates from number `first` on such that a draw sets them aside.
-fn set_aside(bytes: &mut [u8], first: usize, count: usize)
-    requires { ⌜ (first ≤ 1000) × (count ≤ 1000) × (length (now bytes) ≡ 15300) ⌝ }
-{
-    let end = 3 * (first + count);
-    let mut i = 3 * first;
-    while i < end {
-        bytes[i] = 255;
-        i += 1;
-    }
-}
 
 // Prints the four numbers of a case.
 fn case(a: usize, b: usize, c: usize, d: usize) {
@@ -36,7 +24,7 @@ fn residues(
     requires { ⌜ (length (now bytes) ≡ 15300) × (length (now out) ≡ 4097) × (lent ≤ 15300) × (wanted ≤ 4097) × (first ≤ 1000) × (count ≤ 1000) ⌝ }
 {
     report::fill_bytes(bytes, 1);
-    set_aside(bytes, first, count);
+    report::set_aside(bytes, first, count);
     report::fill_numbers(out);
     let answer = draws::residues(set, &bytes[0..lent], &mut out[0..wanted]);
     report::text(b"residues");

@@ -10,7 +10,7 @@ ghost use Rattle.source.specs.Source.{sourceBytes};
 ghost use Rattle.samplers.specs.Blocks.{standing, standingAfter, Written};
 
 // Goes on with a draw over the candidates of one block: `from` results are done, and `before` candidates were set aside in a row since.
-fn continue_draw(
+pub fn continue_draw(
     bytes: &[u8],
     q: u32,
     threshold: u32,

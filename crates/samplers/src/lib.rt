@@ -11,7 +11,7 @@ ghost use Rattle.draws.specs.Uniform.{taken};
 ghost use Rattle.samplers.specs.Blocks.{onward, uniform, uniformAnswer};
 ghost use Rattle.samplers.specs.Seeded.{errorCount, errorsDrawn, multipliersDrawn};
 
-mod block;
+pub mod block;
 mod small;
 
 // What a uniform draw from a seed answers: the counter afterwards, or the number of a refusal.

@@ -5,3 +5,4 @@ pub mod Cancelling
 pub mod Noise
 pub mod Claim
 pub mod Exchange
+pub mod Answers

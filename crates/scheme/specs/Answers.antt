@@ -53,11 +53,13 @@ sealingDraws p pk =
     refuse (not (allBelow (p .q) (keyNumbers p pk))) 3 0
     (refuse (not (allTaken (p .t) (publicDrawn p (keySeed pk)))) 5 0 accepted)
 
--- 3 when a number of c1 is q or more, then 5 when the draw of the secret is refused
+-- 5 when the draw of the secret is refused
+unfoldable pub secretDraw : Parameters → List ℕ → Outcome
+secretDraw p sk = refuse (not (isTaken (secretDrawn p sk))) 5 0 accepted
+
+-- 3 when a number of c1 is q or more, then what the draw of the secret answers
 unfoldable pub readingDraws : Parameters → List ℕ → List ℕ → Outcome
-readingDraws p sk ct =
-    refuse (not (allBelow (p .q) (cipherFirst p ct))) 3 0
-    (refuse (not (isTaken (secretDrawn p sk))) 5 0 accepted)
+readingDraws p sk ct = refuse (not (allBelow (p .q) (cipherFirst p ct))) 3 0 (secretDraw p sk)
 
 -- key of the encryption scheme
 abbrev pub encryptionKeyLengths : ℕ → ℕ → ℕ → ℕ → ℕ → List Bool

@@ -35,3 +35,13 @@ pub fn signed_sum(numbers: &[i32]) -> u64 {
 pub fn pattern(length: usize, start: usize) -> Vec<u8> {
     (0..length).map(|i| ((start + 13 * i) % 199) as u8).collect()
 }
+
+/// Residues from the generator of inputs.
+pub fn residues(length: usize, start: u64, q: u64) -> Vec<u32> {
+    let mut x = start;
+    let mut next = || {
+        x = (x * 1103515245 + 12345) % (1 << 31);
+        (x % q) as u32
+    };
+    (0..length).map(|_| next()).collect()
+}

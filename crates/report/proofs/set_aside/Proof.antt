@@ -1,12 +1,12 @@
--- `run_draws::set_aside` is safe and ends.
+-- `report::set_aside` is safe and ends.
 -- Assumes nothing.
 use mathlib.Core.Path.{_≡_}
 use Prim.Native.Nat.{_+_, _-_, _*_, _≤_}
 use lib.ListN.{length, length-set}
 use native.Mathlib.Omega.{arith}
 use borrow.Author.Needs.{needs}
-use Rattle.run_draws.proofs.set_aside.Statement.{statement}
-use Rattle.run_draws.proofs.set_aside.Tie as tie
+use Rattle.report.proofs.set_aside.Statement.{statement}
+use Rattle.report.proofs.set_aside.Tie as tie
 
 abbrev Inv-loop : tie.InvT-loop
 Inv-loop bytes₀ first count end i₀ bytes i = (i ≤ end) × (end ≡ 3 * (first + count)) × (length bytes ≡ length bytes₀)

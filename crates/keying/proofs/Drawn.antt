@@ -1,0 +1,101 @@
+-- What the answers of the draws of a key tell.
+-- Assumes nothing.
+use mathlib.Core.Path.{_≡_, refl, sym}
+use mathlib.Core.Bool.{Bool, true, false, not, _&&_}
+use mathlib.Core.Logic.{inl, inr}
+use mathlib.Core.List.{List}
+use Prim.Native.Nat.{ℕ, zero, suc, _<_}
+use native.Mathlib.Nat.{zero-add, eq-or-lt-of-le, le-of-suc-le-suc}
+use native.Mathlib.Omega.{arith}
+use Rattle.calls.specs.Outcome.{Outcome, accepted, refused, refuse}
+use Rattle.calls.proofs.Outcome.{accepted-refused}
+use Rattle.sets.specs.declared.Parameters.{Parameters}
+use Rattle.draws.specs.Uniform.{Drawn, taken, ended, exhausted, numbers}
+use Rattle.samplers.specs.Blocks.{uniform, onto, refusal, onwardFrom, uniformAnswer}
+use Rattle.samplers.specs.Seeded.{secretDrawn, secretCounter, publicCounter, publicDrawn}
+use Rattle.scheme.specs.Answers.{isTaken, allTaken}
+
+-- true is not false
+pub true-false : {b : Bool} → b ≡ true → b ≡ false → ⊥
+true-false e f = let z : _≡_ {A = ℕ} 0 1 = cc in omega arith
+
+-- a draw with an answer has its numbers, and the counter is the one afterwards
+pub record Advanced (drawn : Drawn) (counter next : ℕ) : Type 0 where
+  pub all-taken : isTaken drawn ≡ true
+  pub next-is : next ≡ counter
+
+pub advanced : (counter next : ℕ) (drawn : Drawn) → onto next ≡ onwardFrom counter drawn → Advanced drawn counter next
+advanced counter next (taken xs) e = record { all-taken = refl; next-is = cc }
+advanced counter next (ended xs run) e = absurd (let z : _≡_ {A = ℕ} 0 1 = cc in omega arith)
+advanced counter next (exhausted i) e = absurd (let z : _≡_ {A = ℕ} 0 1 = cc in omega arith)
+
+-- a draw that has its numbers
+pub taken-numbers : (drawn : Drawn) → isTaken drawn ≡ true → drawn ≡ taken (numbers drawn)
+unfolding numbers
+taken-numbers (taken xs) e = refl
+taken-numbers (ended xs run) e = absurd (true-false e refl)
+taken-numbers (exhausted i) e = absurd (true-false e refl)
+
+-- a draw that is refused has not its numbers, and is refused with 5
+pub record Stopped (drawn : Drawn) (counter : ℕ) : Type 0 where
+  pub not-taken : isTaken drawn ≡ false
+  pub five : refusal 5 ≡ onwardFrom counter drawn
+
+pub stopped : (counter number : ℕ) (drawn : Drawn) → refusal number ≡ onwardFrom counter drawn → Stopped drawn counter
+stopped counter number (taken xs) e = absurd (let z : _≡_ {A = ℕ} 0 1 = cc in omega arith)
+stopped counter number (ended xs run) e = record { not-taken = refl; five = refl }
+stopped counter number (exhausted i) e = record { not-taken = refl; five = refl }
+
+module _ (seed : List ℕ) where
+  -- the answer of the draw of polynomial i
+  pub public-answer : {p r : Parameters} {wanted counter : ℕ} (i : ℕ) → r ≡ p → wanted ≡ p .n → counter ≡ publicCounter p seed i
+      → uniformAnswer r seed (r .bytpca) counter wanted ≡ onwardFrom (publicCounter p seed (suc i)) (publicDrawn p seed i)
+  unfolding uniformAnswer publicCounter publicDrawn
+  public-answer i e w c = rw (e, w, c)
+
+  -- the draw itself
+  pub public-draw : {p r : Parameters} {wanted counter : ℕ} (i : ℕ) → r ≡ p → wanted ≡ p .n → counter ≡ publicCounter p seed i
+      → uniform r seed (r .bytpca) counter wanted ≡ publicDrawn p seed i
+  unfolding publicDrawn
+  public-draw i e w c = rw (e, w, c)
+
+  -- the answer of the draw of the secret
+  pub secret-answer : {p r : Parameters} {wanted : ℕ} → r ≡ p → wanted ≡ p .d3 → uniformAnswer r seed (r .bytpcs) 0 wanted ≡ onwardFrom (secretCounter p seed) (secretDrawn p seed)
+  unfolding uniformAnswer secretCounter secretDrawn
+  secret-answer e w = rw (e, w, zero-add)
+
+  -- the draw itself
+  pub secret-draw : {p r : Parameters} {wanted : ℕ} → r ≡ p → wanted ≡ p .d3 → uniform r seed (r .bytpcs) 0 wanted ≡ secretDrawn p seed
+  unfolding secretDrawn
+  secret-draw e w = rw (e, w)
+
+-- one draw that is refused among t
+pub one-refused : (t i : ℕ) (draw : ℕ → Drawn) → i < t → isTaken (draw i) ≡ false → allTaken t draw ≡ false
+unfolding allTaken
+one-refused zero i draw h e = absurd (omega arith)
+one-refused (suc t) i draw h e =
+    elim (eq-or-lt-of-le (le-of-suc-le-suc h)) [
+      | inl last ↦ and-right (allTaken t draw) (rw last at e)
+      | inr before ↦ rw (one-refused t i draw before e)
+    ]
+  where
+    and-right : (a : Bool) {b : Bool} → b ≡ false → (a && b) ≡ false
+    and-right true f = f
+    and-right false f = refl
+
+-- a check of a draw
+pub refuse-not-taken : {b : Bool} (after : Outcome) → b ≡ false → refuse (not b) 5 0 after ≡ refused 5 0
+refuse-not-taken after e = rw e
+
+pub refuse-taken : {b : Bool} (after : Outcome) → b ≡ true → refuse (not b) 5 0 after ≡ after
+refuse-taken after e = rw e
+
+-- a check of a draw that accepts
+pub draw-accepted : (b : Bool) (after : Outcome) → refuse (not b) 5 0 after ≡ accepted → (b ≡ true) × (after ≡ accepted)
+draw-accepted true after e = (refl, e)
+draw-accepted false after e = absurd (accepted-refused e refl)
+
+-- a check of a draw that refuses
+pub draw-refused : {number place : ℕ} (b : Bool) (after : Outcome) → refuse (not b) 5 0 accepted ≡ refused number place → refused number place ≡ refuse (not b) 5 0 after
+draw-refused true after e = absurd (accepted-refused refl e)
+draw-refused false after e = sym e

@@ -1,0 +1,75 @@
+-- The first places of `x` take the numbers drawn.
+-- Assumes nothing.
+use mathlib.Core.Path.{_≡_, ap, _∙_}
+use Prim.Native.Nat.{_≤_}
+use native.Mathlib.Omega.{arith}
+use lib.ListN.{length}
+use lib.Seq.{take-at}
+use Rattle.sets.specs.declared.Parameters.{Parameters}
+use Rattle.sets.specs.Table.{setOf}
+use Rattle.sets.proofs.Rules.{rules, byteRules}
+use Rattle.samplers.specs.Seeded.{publicDrawn}
+use Rattle.samplers.proofs.Answers.{publicCounter-most}
+use Rattle.scheme.specs.Encryption.{publicPolynomial}
+use Rattle.keying.proofs.Room.{third-size, counter-short}
+use Rattle.keying.proofs.Parts.{front-length}
+use Rattle.keying.proofs.Drawn.{taken-numbers, public-answer, public-draw}
+use borrow.Author.Needs.{needs}
+use Rattle.keying.proofs.vectors.draw_polynomial.Statement.{statement}
+use Rattle.keying.proofs.vectors.draw_polynomial.Tie as tie
+
+part-residues-from-end : tie.Need-part-residues-from-end
+part-residues-from-end c =
+    let start = c .before .before .before in
+    let set = start .args .set in
+    let kept = rules set (start .pre .1) in
+    omega (arith, ap (λ (p : Parameters). p .n) (c .parameters-of .ensures), start .pre .5, third-size (setOf set), kept .holds3, kept .some-d, kept .some-k)
+
+residues-from-requires : tie.Need-residues-from-requires
+residues-from-requires c κs =
+    let start = c .before .before .before .before in
+    let set = start .args .set in
+    let pre = start .pre in
+    let kept = rules set (pre .1) in
+    let bytes = byteRules set (pre .0) (pre .1) in
+    let room : setOf set .n ≤ length (start .args .x .now) = omega (arith, pre .5, third-size (setOf set), kept .holds3, kept .some-d, kept .some-k) in
+    rw (c .before .parameters-of .ensures, front-length (start .args .x .now) (setOf set .n) room) (
+      kept,
+      omega (arith, pre .2),
+      bytes .some-bytpca,
+      omega (arith, bytes .most-bytpca),
+      kept .some-n,
+      omega (arith, pre .4, publicCounter-most (setOf set) (start .args .seed .now) (start .args .i), counter-short set (pre .0) (pre .1) (start .args .i) (pre .3)),
+    )
+
+returns : tie.Need-returns
+unfolding publicPolynomial
+returns c =
+    let start = c .before .before .before .before .before .before .before in
+    let set = start .args .set in
+    let pre = start .pre in
+    let kept = rules set (pre .1) in
+    let seed = start .args .seed .now in
+    let i = start .args .i in
+    let parameters = c .before .before .before .before .parameters-of .ensures in
+    let drawn = c .before .before .residues-from in
+    let end : c .before .before .before .before .parameters-of .result .n ≡ setOf set .n = ap (λ (p : Parameters). p .n) parameters in
+    let room : c .before .before .before .before .parameters-of .result .n ≤ length (start .args .x .now) = omega (arith, pre .5, third-size (setOf set), kept .holds3, kept .some-d, kept .some-k) in
+    let front = front-length (start .args .x .now) (c .before .before .before .before .parameters-of .result .n) room in (
+      drawn .ensures .0 ∙ public-answer seed i parameters (front ∙ end) (pre .4),
+      λ t.
+          take-at (drawn .last .1 .1 .1 .1 .0) _ (setOf set .n) (drawn .kept .1 .1 .1 .1 .0 ∙ front ∙ end)
+          ∙ drawn .ensures .1 (publicPolynomial (setOf set) seed i) (public-draw seed i parameters (front ∙ end) (pre .4) ∙ taken-numbers (publicDrawn (setOf set) seed i) t),
+    )
+
+pub draw-polynomial-spec : {M : Type 1} → statement M
+draw-polynomial-spec =
+    tie.close
+    (tie.spec
+    (λ c κs. search needs)
+    (λ c. search needs)
+    (λ c. search needs)
+    part-residues-from-end
+    residues-from-requires
+    (λ c. search needs)
+    returns)

@@ -1,0 +1,36 @@
+// The bytes of a public key from its seed and its stored vectors (003, algorithm 1, lines 11 and 13).
+ghost use mathlib.Core.Path.{_≡_};
+ghost use mathlib.Core.List.{_++_};
+ghost use Prim.Native.Nat.{_*_, _≤_, _<_};
+ghost use lib.ListN.{length};
+ghost use Rattle.calls.specs.Region.{region, over};
+ghost use Rattle.sets.specs.Table.{setOf};
+ghost use Rattle.sets.specs.Derived.{packedBytes, publicKeyBytes};
+ghost use Rattle.packing.specs.Digits.{Digit, pack};
+ghost use Rattle.scheme.specs.Answers.{workLength};
+ghost use Rattle.keying.specs.Held.{vectorsStart};
+
+// Copies `src` to the front of `out`.
+pub fn copy_bytes(out: &mut [u8], src: &[u8])
+    requires { ⌜ length (now src) ≤ length (now out) ⌝ }
+    ensures { λ _. ⌜ now (out .exit) ≡ over (now (out .entry)) 0 (now (src .entry)) ⌝ }
+{
+    let mut i: usize = 0;
+    while i < src.len() {
+        out[i] = src[i];
+        i += 1;
+    }
+}
+
+// Writes the seed, and after it the stored vectors packed.
+pub fn write_public_key(set: usize, seed: &[u8], work: &[u32], out: &mut [u8])
+    requires { ⌜ (1 ≤ set) × (set < 13) × (length (now seed) ≡ 32) × (length (now work) ≡ workLength (setOf set)) × (length (now out) ≡ publicKeyBytes (setOf set)) ⌝ }
+    requires { ⌜ Digit (setOf set .width) (region (now work) (vectorsStart (setOf set)) (setOf set .d1 * setOf set .t)) ⌝ }
+    ensures { λ _. ⌜ now (out .exit) ≡ now (seed .entry) ++ pack (setOf set .width) (packedBytes (setOf set .d1 * setOf set .t) (setOf set .width)) (region (now (work .entry)) (vectorsStart (setOf set)) (setOf set .d1 * setOf set .t)) ⌝ }
+{
+    let p = sets::parameters_of(set);
+    let start = crate::vectors::vectors_start(set);
+    let end = crate::vectors::vectors_end(set);
+    copy_bytes(out, seed);
+    packing::pack_into(&work[start..end], p.width, &mut out[32..]);
+}

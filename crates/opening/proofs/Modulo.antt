@@ -1,0 +1,73 @@
+-- Numbers taken modulo q: their places, and that what a stored vector recovers to depends only on its numbers modulo q.
+-- Assumes nothing.
+use mathlib.Core.Path.{_≡_, sym, _∙_}
+use mathlib.Core.List.{List}
+use Prim.Native.Nat.{ℕ, _*_, _%_, _≤_, _<_}
+use native.Mathlib.Nat.{mod-lt}
+use native.Mathlib.Decide.{decLt}
+use native.Mathlib.Omega.{arith}
+use lib.ListN.{length, length-map}
+use Rattle.maths.specs.Vector.{at}
+use Rattle.maths.specs.Congruence.{Mod}
+use Rattle.maths.specs.Transform.{recover}
+use Rattle.maths.proofs.Vector.{at-past, equal-by-place, map-at}
+use Rattle.maths.proofs.Congruence.{mod-refl, mod-eq, mod-remainder, mod-mul}
+use Rattle.maths.proofs.Convolution.{transform-mod}
+use Rattle.maths.proofs.Transform.{invPerm-at, recover-length, recover-at}
+use Rattle.transforms.specs.Ready.{AllBelow}
+use Rattle.sets.specs.Table.{setOf}
+use Rattle.sets.specs.Derived.{transformSize}
+use Rattle.transformed.specs.Stored.{rowCount, rootInverse, sizeInverse, recoveredInverse}
+use Rattle.transformed.specs.Placed.{Placed}
+use Rattle.transformed.proofs.Sizes.{size-rows, some-modulus}
+use Rattle.opening.specs.Opened.{reduced}
+
+module _ (q : ℕ) (xs : List ℕ) where
+  -- as many numbers as before
+  pub reduced-length : length (reduced q xs) ≡ length xs
+  unfolding reduced
+  reduced-length = length-map xs _
+
+  -- the number at a place
+  pub reduced-at : (j : ℕ) → j < length xs → at (reduced q xs) j ≡ at xs j % q
+  unfolding reduced
+  reduced-at j h = map-at (λ x. x % q) xs j h
+
+  -- each is a residue
+  pub reduced-below : 0 < q → AllBelow q (length xs) (reduced q xs)
+  reduced-below some = record { each = λ j h. rw (reduced-at j h) (mod-lt _ some) }
+
+  -- it is congruent to the number that was there, past the end too
+  reduced-mod : (j : ℕ) → Mod q (at (reduced q xs) j) (at xs j)
+  reduced-mod j =
+      elim (decLt j (length xs)) [
+        | yes inside ↦ rw (reduced-at j inside) (mod-remainder q _)
+        | no past ↦ mod-eq (at-past (reduced q xs) j (omega (arith, reduced-length)) ∙ sym (at-past xs j (omega arith)))
+      ]
+
+-- stored vectors that are congruent place by place recover alike
+recover-mod : (q ρ δ w e m : ℕ) (xs ys : List ℕ) → m ≤ δ * ρ → ((j : ℕ) → Mod q (at xs j) (at ys j)) → recover q ρ δ w e m xs ≡ recover q ρ δ w e m ys
+recover-mod q ρ δ w e m xs ys fits same =
+    equal-by-place m _ _ (recover-length q ρ δ w e m xs) (recover-length q ρ δ w e m ys)
+    (λ j h.
+    recover-at q ρ δ w e m xs j h (omega arith)
+    ∙ mod-mul (mod-refl e) (transform-mod (δ * ρ) w _ _ j (λ l k. rw (invPerm-at ρ δ xs l k, invPerm-at ρ δ ys l k) (same _))) .same
+    ∙ sym (recover-at q ρ δ w e m ys j h (omega arith)))
+
+-- numbers of q or more count modulo q
+pub recoveredInverse-reduced : (set : ℕ) → set < 13 → (i : ℕ) (xs : List ℕ)
+    → recoveredInverse (setOf set) i (transformSize (setOf set) i) (reduced (setOf set .q) xs) ≡ recoveredInverse (setOf set) i (transformSize (setOf set) i) xs
+unfolding recoveredInverse
+recoveredInverse-reduced set low i xs =
+    recover-mod (setOf set .q) (setOf set .row) (rowCount (setOf set) i) (rootInverse (setOf set) i) (sizeInverse (setOf set) i) (transformSize (setOf set) i) (reduced (setOf set .q) xs) xs
+    (omega (arith, size-rows set low i))
+    (reduced-mod (setOf set .q) xs)
+
+-- a vector with the places of a transform may be recovered once its numbers are taken modulo q
+pub reduced-placed : (set : ℕ) → set < 13 → (i : ℕ) (xs : List ℕ) → length xs ≡ transformSize (setOf set) i → Placed (setOf set) i (transformSize (setOf set) i) (reduced (setOf set .q) xs)
+reduced-placed set low i xs size =
+    record {
+      size = reduced-length (setOf set .q) xs ∙ size;
+      inside = omega arith;
+      residues = rw size at (reduced-below (setOf set .q) xs (omega (arith, some-modulus set low i)));
+    }

@@ -1,0 +1,273 @@
+-- The first part of a ciphertext: one public polynomial drawn and sent, the products added up over all polynomials, and what they stand for.
+-- Assumes nothing.
+use mathlib.Core.Path.{_≡_, refl, sym, ap, subst, _∙_}
+use mathlib.Core.Bool.{Bool, true, false, _&&_}
+use mathlib.Core.Logic.{inl, inr}
+use mathlib.Core.List.{List, _++_}
+use Prim.Native.Nat.{ℕ, zero, suc, _+_, _-_, _*_, _^_, _≤_, _<_}
+use native.Mathlib.Nat.{eq-or-lt-of-le, le-of-suc-le-suc, mul-le-mul-left}
+use native.Mathlib.Numerals.{add-one}
+use native.Mathlib.Omega.{arith}
+use lib.ListN.{length, take, drop, replicate}
+use Rattle.maths.specs.Vector.{at}
+use Rattle.calls.specs.Region.{vector}
+use Rattle.calls.proofs.Region.{region-length, over-lent}
+use Rattle.transforms.specs.Ready.{AllBelow}
+use Rattle.sets.specs.declared.Parameters.{Parameters}
+use Rattle.sets.specs.Table.{setOf}
+use Rattle.sets.specs.Derived.{transformSize}
+use Rattle.sets.proofs.Rules.{rules}
+use Rattle.packing.specs.Digits.{Digit, pack}
+use Rattle.draws.specs.Uniform.{Drawn, taken, ended, exhausted, numbers}
+use Rattle.samplers.specs.Blocks.{uniform, onto, refusal, uniformAnswer}
+use Rattle.samplers.specs.Seeded.{publicCounter, publicDrawn}
+use Rattle.samplers.proofs.Uniform.{uniform-length, uniform-below}
+use Rattle.samplers.proofs.Answers.{answer-onto, answer-refusal, publicCounter-most}
+use Rattle.transformed.specs.Stored.{sent, accumulated, totals}
+use Rattle.transformed.specs.Placed.{Placed}
+use Rattle.transformed.proofs.Pointwise.{accumulated-length}
+use Rattle.transformed.proofs.Vectors.{Stored, sent-placed, addends}
+use Rattle.transformed.proofs.Sums.{totals-none, totals-more, totals-placed, totals-sent}
+use Rattle.scheme.specs.Answers.{isTaken, allTaken}
+use Rattle.scheme.specs.Encryption.{publicPolynomial, firstNumbers, firstBytes}
+use Rattle.sealing.specs.Parts.{Multipliers, firstPart}
+use Rattle.sealing.proofs.Multiplied.{second-size, front, front-placed, residue-digits, rules-of, vector-room}
+
+-- a draw without its numbers is not taken
+not-taken : (drawn : Drawn) → ((xs : List ℕ) → drawn ≡ taken xs → ⊥) → isTaken drawn ≡ false
+not-taken (taken xs) h = absurd (h xs refl)
+not-taken (ended xs run) h = refl
+not-taken (exhausted i) h = refl
+
+-- a draw that is taken has numbers
+has-numbers : (drawn : Drawn) → isTaken drawn ≡ true → drawn ≡ taken (numbers drawn)
+unfolding numbers
+has-numbers (taken xs) e = refl
+has-numbers (ended xs run) e = let z : _≡_ {A = ℕ} 0 1 = cc in absurd (omega arith)
+has-numbers (exhausted i) e = let z : _≡_ {A = ℕ} 0 1 = cc in absurd (omega arith)
+
+-- both tests hold
+both-true : (a b : Bool) → (a && b) ≡ true → (a ≡ true) × (b ≡ true)
+both-true true b e = (refl, e)
+both-true false b e = let z : _≡_ {A = ℕ} 0 1 = cc in absurd (omega arith)
+
+-- a test that fails on the right
+and-false : (a : Bool) → (a && false) ≡ false
+and-false true = refl
+and-false false = refl
+
+-- one draw that is not taken
+allTaken-false : (t : ℕ) (draw : ℕ → Drawn) (i : ℕ) → i < t → isTaken (draw i) ≡ false → allTaken t draw ≡ false
+unfolding allTaken
+allTaken-false zero draw i h e = absurd (omega arith)
+allTaken-false (suc t) draw i h e =
+    elim (eq-or-lt-of-le (le-of-suc-le-suc h)) [
+      | inl last ↦ rw (rw last at e) (and-false (allTaken t draw))
+      | inr before ↦ rw (allTaken-false t draw i before e)
+    ]
+
+-- each of the draws is taken
+allTaken-each : (t : ℕ) (draw : ℕ → Drawn) → allTaken t draw ≡ true → (i : ℕ) → i < t → isTaken (draw i) ≡ true
+unfolding allTaken
+allTaken-each zero draw e i h = absurd (omega arith)
+allTaken-each (suc t) draw e i h =
+    let both = both-true (allTaken t draw) (isTaken (draw t)) e in
+    elim (eq-or-lt-of-le (le-of-suc-le-suc h)) [
+      | inl last ↦ rw last (both .1)
+      | inr before ↦ allTaken-each t draw (both .0) i before
+    ]
+
+-- one draw more is taken
+allTaken-more : (t : ℕ) (draw : ℕ → Drawn) → allTaken t draw ≡ true → isTaken (draw t) ≡ true → allTaken (t + 1) draw ≡ true
+unfolding allTaken
+allTaken-more t draw all more = rw (add-one, all, more)
+
+-- no draw
+allTaken-none : (draw : ℕ → Drawn) → allTaken 0 draw ≡ true
+unfolding allTaken
+allTaken-none draw = refl
+
+-- a small product
+small-product : (i n : ℕ) → i ≤ 10 → n ≤ 2048 → i * n ≤ 20480
+small-product i n h l =
+    let one : i * n ≤ i * 2048 = mul-le-mul-left i l in
+    omega arith
+
+module _ (set : ℕ) (low : set < 13) (p : Parameters) (e : p ≡ setOf set) where
+  -- a public polynomial fits the second transform
+  pub polynomial-fits : p .n ≤ transformSize (setOf set) 2
+  polynomial-fits = let kept = rules set low in rw e (omega (arith, second-size (setOf set), kept .holds2))
+
+  module _ (seed : List ℕ) (counter len : ℕ) (l : len ≡ p .n) where
+    -- the answer of the draw is that of the set's
+    pub answer-set : uniformAnswer p seed (p .bytpca) counter len ≡ uniformAnswer (setOf set) seed (setOf set .bytpca) counter (setOf set .n)
+    answer-set =
+        ap (λ (n : ℕ). uniformAnswer p seed (p .bytpca) counter n) l ∙ ap (λ (r : Parameters). uniformAnswer r seed (r .bytpca) counter (r .n)) e
+
+    -- and so is the draw
+    draw-set : uniform p seed (p .bytpca) counter len ≡ uniform (setOf set) seed (setOf set .bytpca) counter (setOf set .n)
+    draw-set = ap (λ (n : ℕ). uniform p seed (p .bytpca) counter n) l ∙ ap (λ (r : Parameters). uniform r seed (r .bytpca) counter (r .n)) e
+
+    -- an answer with a counter: the numbers are those drawn
+    pub drawn-numbers : (next : ℕ) (ys : List ℕ) → uniformAnswer p seed (p .bytpca) counter len ≡ onto next → ((xs : List ℕ) → uniform p seed (p .bytpca) counter len ≡ taken xs → ys ≡ xs)
+        → uniform (setOf set) seed (setOf set .bytpca) counter (setOf set .n) ≡ taken ys
+    drawn-numbers next ys answer result =
+        let o = answer-onto p seed (p .bytpca) counter len next answer in
+        sym draw-set ∙ o .drawn-is ∙ ap taken (sym (result (o .xs) (o .drawn-is)))
+
+    -- a refusal: there are no numbers
+    pub drawn-refused : (number : ℕ) → uniformAnswer p seed (p .bytpca) counter len ≡ refusal number → (xs : List ℕ) → uniform (setOf set) seed (setOf set .bytpca) counter (setOf set .n) ≡ taken xs → ⊥
+    drawn-refused number answer xs u = answer-refusal p seed (p .bytpca) counter len number answer .1 xs (draw-set ∙ u)
+
+  module _ (seed : List ℕ) (counter : ℕ) (y ys : List ℕ) (size : length y ≡ transformSize (setOf set) 2) (u : uniform (setOf set) seed (setOf set .bytpca) counter (setOf set .n) ≡ taken ys) where
+    -- there are n of them
+    drawn-size : length ys ≡ p .n
+    drawn-size = uniform-length (setOf set) seed (setOf set .bytpca) counter (setOf set .n) ys u ∙ ap (λ (r : Parameters). r .n) (sym e)
+
+    -- the numbers drawn may be sent
+    pub drawn-placed : Placed (setOf set) 2 (p .n) (take 0 y ++ (ys ++ drop (p .n - 0) (drop 0 y)))
+    drawn-placed =
+        let some : 0 < setOf set .q = omega (arith, rules set low .prime .above) in
+        subst (Placed (setOf set) 2 (p .n)) (sym (over-lent y 0 ys (p .n) (omega (arith, drawn-size))))
+        (rw drawn-size at
+        (front-placed set 2 y ys size (rw drawn-size polynomial-fits)
+        (λ k h. uniform-below (setOf set) seed (setOf set .bytpca) counter (setOf set .n) ys some u k)))
+
+    -- and are what is sent
+    pub drawn-front : take (p .n) (take 0 y ++ (ys ++ drop (p .n - 0) (drop 0 y))) ≡ ys
+    drawn-front =
+        ap (take (p .n)) (over-lent y 0 ys (p .n) (omega (arith, drawn-size)))
+        ∙ rw drawn-size at (front y ys (rw (drawn-size, size) polynomial-fits))
+
+    -- so what is sent is what the draw took
+    pub drawn-sent : (exit : List ℕ) → exit ≡ sent (setOf set) 2 (take (p .n) (take 0 y ++ (ys ++ drop (p .n - 0) (drop 0 y))))
+        → (xs : List ℕ) → uniform (setOf set) seed (setOf set .bytpca) counter (setOf set .n) ≡ taken xs → exit ≡ sent (setOf set) 2 xs
+    drawn-sent exit s xs v =
+        let same : ys ≡ xs = cc in
+        s ∙ ap (sent (setOf set) 2) (drawn-front ∙ same)
+
+-- the products of the first i polynomials are added up
+pub record Adding (set : ℕ) (seed ms : List ℕ) (size : ℕ) (total x y : List ℕ) (counter i : ℕ) : Type 0 where
+  pub total-size : length total ≡ size
+  pub within : i ≤ setOf set .t
+  pub drawn : allTaken i (publicDrawn (setOf set) seed) ≡ true
+  pub reached : counter ≡ publicCounter (setOf set) seed i
+  pub sum : total ≡ totals (setOf set .q) (transformSize (setOf set) 2) i (λ j. sent (setOf set) 2 (vector (setOf set .k + 1) ms j)) (λ j. sent (setOf set) 2 (publicPolynomial (setOf set) seed j))
+  pub x-size : length x ≡ transformSize (setOf set) 2
+  pub y-size : length y ≡ transformSize (setOf set) 2
+
+-- one public polynomial is drawn and sent
+pub record Sampled (set : ℕ) (seed : List ℕ) (i next : ℕ) (y : List ℕ) : Type 0 where
+  pub is-taken : isTaken (publicDrawn (setOf set) seed i) ≡ true
+  pub reached : next ≡ publicCounter (setOf set) seed (i + 1)
+  pub y-is : y ≡ sent (setOf set) 2 (publicPolynomial (setOf set) seed i)
+
+module _ (set : ℕ) (low : set < 13) (seed ms : List ℕ) where
+  -- before the first polynomial
+  pub adding-none : (total x y : List ℕ) → total ≡ replicate (transformSize (setOf set) 2) 0 → length x ≡ transformSize (setOf set) 2 → length y ≡ transformSize (setOf set) 2 → Adding set seed ms (length total) total x y 0 0
+  unfolding publicCounter
+  adding-none total x y zeros xs ys =
+      record {
+        total-size = refl;
+        within = omega arith;
+        drawn = allTaken-none (publicDrawn (setOf set) seed);
+        reached = refl;
+        sum = zeros ∙ sym (totals-none (setOf set .q) (transformSize (setOf set) 2) _ _ (omega (arith, rules set low .prime .above)));
+        x-size = xs;
+        y-size = ys;
+      }
+
+  -- the counter stays small
+  pub counter-small : (i : ℕ) → i ≤ setOf set .t → publicCounter (setOf set) seed i ≤ 32768
+  counter-small i h =
+      let kept = rules set low in
+      omega (arith, publicCounter-most (setOf set) seed i, small-product i (setOf set .n) (omega (arith, kept .most-t)) (kept .most-n))
+
+  module _ (counter i : ℕ) (reached : counter ≡ publicCounter (setOf set) seed i) where
+    -- the draw with the counter reached is that of polynomial i
+    draw-is : publicDrawn (setOf set) seed i ≡ uniform (setOf set) seed (setOf set .bytpca) counter (setOf set .n)
+    unfolding publicDrawn
+    draw-is = ap (λ (c : ℕ). uniform (setOf set) seed (setOf set .bytpca) c (setOf set .n)) (sym reached)
+
+    -- an answer with a counter: polynomial i is drawn and sent
+    pub sampled : (next : ℕ) (y : List ℕ) → uniformAnswer (setOf set) seed (setOf set .bytpca) counter (setOf set .n) ≡ onto next
+        → ((xs : List ℕ) → uniform (setOf set) seed (setOf set .bytpca) counter (setOf set .n) ≡ taken xs → y ≡ sent (setOf set) 2 xs) → Sampled set seed i next y
+    unfolding publicCounter publicPolynomial numbers
+    sampled next y answer result =
+        let o = answer-onto (setOf set) seed (setOf set .bytpca) counter (setOf set .n) next answer in
+        let is : publicDrawn (setOf set) seed i ≡ taken (o .xs) = draw-is ∙ o .drawn-is in
+        record {
+          is-taken = rw is;
+          reached = o .next-is ∙ rw (add-one, reached);
+          y-is = rw is (result (o .xs) (o .drawn-is));
+        }
+
+    -- a refused draw refuses all
+    pub sampled-refused : (number : ℕ) → i < setOf set .t → uniformAnswer (setOf set) seed (setOf set .bytpca) counter (setOf set .n) ≡ refusal number → allTaken (setOf set .t) (publicDrawn (setOf set) seed) ≡ false
+    sampled-refused number h answer =
+        allTaken-false (setOf set .t) (publicDrawn (setOf set) seed) i h
+        (not-taken (publicDrawn (setOf set) seed i) (λ xs d. answer-refusal (setOf set) seed (setOf set .bytpca) counter (setOf set .n) number answer .1 xs (sym draw-is ∙ d)))
+
+  -- one polynomial more
+  pub adding-more : {size : ℕ} {total x₀ y₀ : List ℕ} {counter i : ℕ} (new x y : List ℕ) (next : ℕ) → Adding set seed ms size total x₀ y₀ counter i → i < setOf set .t → Sampled set seed i next y → x ≡ sent (setOf set) 2 (vector (setOf set .k + 1) ms i)
+      → new ≡ accumulated (setOf set .q) total x y → Adding set seed ms size new x y next (i + 1)
+  adding-more {total = total} {i = i} new x y next a h s x-is made =
+      record {
+        total-size = ap length made ∙ accumulated-length (setOf set .q) total x y ∙ a .total-size;
+        within = omega arith;
+        drawn = allTaken-more i (publicDrawn (setOf set) seed) (a .drawn) (s .is-taken);
+        reached = s .reached;
+        sum = made ∙ rw (a .sum, x-is, s .y-is) (totals-more (setOf set .q) (transformSize (setOf set) 2) (λ j. sent (setOf set) 2 (vector (setOf set .k + 1) ms j)) (λ j. sent (setOf set) 2 (publicPolynomial (setOf set) seed j)) i);
+        x-size = rw x-is (sent-placed set low 2 _ .size);
+        y-size = rw (s .y-is) (sent-placed set low 2 _ .size);
+      }
+
+  -- the total and the vectors of one turn may be accumulated
+  pub adding-addends : {size : ℕ} {total x₀ y₀ x y : List ℕ} {counter i : ℕ} (p : Parameters) → p ≡ setOf set → Adding set seed ms size total x₀ y₀ counter i → x ≡ sent (setOf set) 2 (vector (setOf set .k + 1) ms i) → y ≡ sent (setOf set) 2 (publicPolynomial (setOf set) seed i)
+      → (length x ≡ length total) × (length y ≡ length total) × AllBelow (p .q) (length total) total × AllBelow (p .q) (length total) x × AllBelow (p .q) (length total) y × (p .q < 2 ^ 24)
+  adding-addends {total = total} {x = x} {y = y} {i = i} p e a x-is y-is =
+      let stored : Stored set 2 total = rw (a .sum) (totals-placed set low 2 i (λ j. sent (setOf set) 2 (vector (setOf set .k + 1) ms j)) (λ j. sent (setOf set) 2 (publicPolynomial (setOf set) seed j))) in
+      let one : Stored set 2 x = rw x-is (sent-placed set low 2 (vector (setOf set .k + 1) ms i)) in
+      let other : Stored set 2 y = rw y-is (sent-placed set low 2 (publicPolynomial (setOf set) seed i)) in
+      rw e (addends set low 2 stored one other)
+
+  -- after the last polynomial
+  pub adding-all : {size : ℕ} {total x y : List ℕ} {counter i : ℕ} → Adding set seed ms size total x y counter i → setOf set .t ≤ i
+      → (true ≡ allTaken (setOf set .t) (publicDrawn (setOf set) seed))
+      × (true ≡ true → total ≡ totals (setOf set .q) (transformSize (setOf set) 2) (setOf set .t) (λ j. sent (setOf set) 2 (vector (setOf set .k + 1) ms j)) (λ j. sent (setOf set) 2 (publicPolynomial (setOf set) seed j)))
+  adding-all {i = i} a h =
+      let all : i ≡ setOf set .t = omega arith in
+      (sym (rw all at (a .drawn)), λ e. rw all at (a .sum))
+
+  -- a public polynomial has n numbers
+  polynomial-length : allTaken (setOf set .t) (publicDrawn (setOf set) seed) ≡ true → (i : ℕ) → i < setOf set .t → length (publicPolynomial (setOf set) seed i) ≡ setOf set .n
+  unfolding publicDrawn publicPolynomial
+  polynomial-length all i h =
+      uniform-length (setOf set) seed (setOf set .bytpca) (publicCounter (setOf set) seed i) (setOf set .n) _
+      (has-numbers (publicDrawn (setOf set) seed i) (allTaken-each (setOf set .t) (publicDrawn (setOf set) seed) all i h))
+
+  -- all products added up are what is sent of c1'
+  pub first-sent : Multipliers (setOf set) ms → allTaken (setOf set .t) (publicDrawn (setOf set) seed) ≡ true
+      → totals (setOf set .q) (transformSize (setOf set) 2) (setOf set .t) (λ j. sent (setOf set) 2 (vector (setOf set .k + 1) ms j)) (λ j. sent (setOf set) 2 (publicPolynomial (setOf set) seed j))
+      ≡ sent (setOf set) 2 (firstNumbers (setOf set) (λ i. vector (setOf set .k + 1) ms i) (publicPolynomial (setOf set) seed))
+  unfolding firstNumbers
+  first-sent m all =
+      totals-sent set low 2 (setOf set .t) (λ i. vector (setOf set .k + 1) ms i) (publicPolynomial (setOf set) seed) (setOf set .n + setOf set .k)
+      (omega (arith, second-size (setOf set), rules set low .holds2))
+      (λ j h.
+      let one : length (vector (setOf set .k + 1) ms j) ≡ setOf set .k + 1 = region-length ms ((setOf set .k + 1) * j) (setOf set .k + 1) (omega (arith, m .size, vector-room set low (setOf set) refl j h .within)) in
+      omega (arith, polynomial-length all j h))
+
+  -- each number of the total has the bits of a packed number
+  pub total-digits : (p : Parameters) → p ≡ setOf set → (total : List ℕ)
+      → total ≡ totals (setOf set .q) (transformSize (setOf set) 2) (setOf set .t) (λ j. sent (setOf set) 2 (vector (setOf set .k + 1) ms j)) (λ j. sent (setOf set) 2 (publicPolynomial (setOf set) seed j)) → Digit (p .width) total
+  total-digits p e total made =
+      let stored : Stored set 2 total = rw made (totals-placed set low 2 (setOf set .t) (λ j. sent (setOf set) 2 (vector (setOf set .k + 1) ms j)) (λ j. sent (setOf set) 2 (publicPolynomial (setOf set) seed j))) in
+      residue-digits p total (rules-of set low p e) (rw (e, stored .size) (stored .residues))
+
+  -- packed, they are the first part
+  pub first-packed : (p : Parameters) → p ≡ setOf set → (total : List ℕ) (len : ℕ) → Multipliers (setOf set) ms → allTaken (setOf set .t) (publicDrawn (setOf set) seed) ≡ true → len ≡ firstBytes (setOf set)
+      → total ≡ totals (setOf set .q) (transformSize (setOf set) 2) (setOf set .t) (λ j. sent (setOf set) 2 (vector (setOf set .k + 1) ms j)) (λ j. sent (setOf set) 2 (publicPolynomial (setOf set) seed j))
+      → pack (p .width) len total ≡ firstPart (setOf set) seed ms
+  unfolding firstPart
+  first-packed p e total len m all l made = rw (e, l, made, first-sent m all)

@@ -1,0 +1,4 @@
+pub mod Multiplied
+pub mod Adding
+pub mod Correlating
+pub mod Sealed

@@ -1,0 +1,115 @@
+-- One multiplier polynomial among all multipliers: its room, and what is sent of it.
+-- Assumes nothing.
+use mathlib.Core.Path.{_≡_, refl, ap, _∙_}
+use mathlib.Core.List.{List}
+use Prim.Native.Nat.{ℕ, suc, _+_, _-_, _*_, _≤_, _<_}
+use native.Mathlib.Nat.{zero-add, sub-zero, mul-le-mul-left}
+use native.Mathlib.Decide.{decLt}
+use native.Mathlib.Omega.{arith}
+use lib.ListN.{length, take, drop}
+use lib.Seq.{length-take-le}
+use Rattle.maths.specs.Vector.{at}
+use Rattle.maths.proofs.Vector.{at-past}
+use Rattle.calls.specs.Region.{region, over, vector}
+use Rattle.calls.proofs.Region.{region-entry, region-length, region-part, over-front, over-inside, over-length}
+use Rattle.transforms.specs.Ready.{AllBelow}
+use Rattle.sets.specs.declared.Parameters.{Parameters}
+use Rattle.sets.specs.Table.{setOf}
+use Rattle.sets.specs.Derived.{transformSize, multiplierCount}
+use Rattle.sets.specs.Rules.{Rules, ByteRules}
+use Rattle.sets.proofs.Rules.{rules, byteRules}
+use Rattle.sets.proofs.Transforms.{size-first, size-second, by-size}
+use Rattle.packing.specs.Digits.{Digit}
+use Rattle.transformed.specs.Placed.{Placed}
+use Rattle.sealing.specs.Parts.{Multipliers}
+
+-- the sizes of the first two transforms
+pub first-size : (p : Parameters) → transformSize p 1 ≡ p .d1
+first-size p = size-first p 1 refl
+
+pub second-size : (p : Parameters) → transformSize p 2 ≡ p .d2
+second-size p = size-second p 2 refl
+
+-- the length of a part that begins at the first place
+pub front-length : (xs : List ℕ) (n : ℕ) → n ≤ length xs → length (take (n - 0) (drop 0 xs)) ≡ n
+front-length xs n h = rw sub-zero (length-take-le n xs h)
+
+-- the front of a list that was written over
+pub front : (xs ys : List ℕ) → length ys ≤ length xs → take (length ys) (over xs 0 ys) ≡ ys
+front xs ys fits = rw zero-add at (over-front xs 0 ys (rw zero-add fits))
+
+-- a vector lies within all vectors
+pub vector-within : (n i t : ℕ) → i < t → n * i + n ≤ n * t
+vector-within n i t h = let room : n * suc i ≤ n * t = mul-le-mul-left n h in omega arith
+
+-- residues are digits of a set's width
+pub residue-digits : (p : Parameters) (xs : List ℕ) → Rules p → AllBelow (p .q) (length xs) xs → Digit (p .width) xs
+residue-digits p xs kept below k =
+    elim (decLt k (length xs)) [
+      | yes h ↦ let b : at xs k < p .q = below .each k h in omega (arith, kept .width-enough)
+      | no h ↦ let z : at xs k ≡ 0 = at-past xs k (omega arith) in omega (arith, kept .width-enough)
+    ]
+
+-- where one multiplier polynomial stands among all multipliers
+pub record Room (p : Parameters) (i count : ℕ) : Type 0 where
+  pub short : p .k + 1 ≤ 1024
+  pub within : (p .k + 1) * i + (p .k + 1) ≤ count
+  pub few : count ≤ 8192
+
+-- a slice with residues at its front may be sent
+pub front-placed : (set i : ℕ) (xs ys : List ℕ) → length xs ≡ transformSize (setOf set) i → length ys ≤ transformSize (setOf set) i → ((k : ℕ) → k < length ys → at ys k < setOf set .q)
+    → Placed (setOf set) i (length ys) (over xs 0 ys)
+front-placed set i xs ys size fits below =
+    let room : 0 + length ys ≤ length xs = omega arith in
+    record {
+      size = over-length xs 0 ys room ∙ size;
+      inside = fits;
+      residues = record { each = λ k h. rw (rw zero-add at (over-inside xs 0 ys room k 0 h)) (below k h) };
+    }
+
+module _ (set : ℕ) (low : set < 13) (p : Parameters) (e : p ≡ setOf set) where
+  -- the numbers of the set keep the rules
+  pub rules-of : Rules p
+  rules-of = rw e (rules set low)
+
+  -- and those of bytes
+  pub byteRules-of : 1 ≤ set → ByteRules p
+  byteRules-of some = rw e (byteRules set some low)
+
+  -- a multiplier polynomial lies within all multipliers
+  pub vector-room : (i : ℕ) → i < setOf set .t → Room p i (multiplierCount (setOf set))
+  unfolding multiplierCount
+  vector-room i h =
+      let kept = rules set low in
+      let room : (setOf set .k + 1) * i + (setOf set .k + 1) ≤ (setOf set .k + 1) * setOf set .t = vector-within (setOf set .k + 1) i (setOf set .t) h in
+      rw e (record { short = omega (arith, kept .most-k); within = omega arith; few = kept .most-multipliers })
+
+  -- a multiplier polynomial fits every transform
+  pub multiplier-fits : (number : ℕ) → p .k + 1 ≤ transformSize (setOf set) number
+  multiplier-fits number =
+      let kept = rules set low in
+      rw e (by-size (setOf set) number (λ D. setOf set .k + 1 ≤ D) (omega (arith, kept .some-d, kept .holds1)) (omega (arith, kept .some-d, kept .holds1, kept .rising1)) (omega (arith, kept .some-d, kept .holds1, kept .rising1, kept .rising2)))
+
+  module _ (number i : ℕ) (xs ms : List ℕ) (size : length xs ≡ transformSize (setOf set) number) (m : Multipliers (setOf set) ms) (h : i < setOf set .t) where
+    -- it has k + 1 numbers
+    part-size : length (region ms ((p .k + 1) * i) (p .k + 1)) ≡ p .k + 1
+    part-size = region-length ms ((p .k + 1) * i) (p .k + 1) (omega (arith, m .size, vector-room i h .within))
+
+    -- copied to the front of a slice, it may be sent
+    pub multipliers-placed : Placed (setOf set) number (p .k + 1) (over xs 0 (take ((p .k + 1) * i + (p .k + 1) - (p .k + 1) * i) (drop ((p .k + 1) * i) ms)))
+    multipliers-placed =
+        let room = vector-room i h in
+        let ys = region ms ((p .k + 1) * i) (p .k + 1) in
+        rw (region-part ms ((p .k + 1) * i) (p .k + 1) ((p .k + 1) * i + (p .k + 1)) refl)
+        (rw part-size at
+        (front-placed set number xs ys size (rw part-size (multiplier-fits number))
+        (λ j l. let inside : j < p .k + 1 = rw part-size at l in
+        rw (region-entry ms ((p .k + 1) * i) (p .k + 1) j 0 inside) (m .residues .each ((p .k + 1) * i + j) (omega (arith, room .within))))))
+
+    -- what is sent is that polynomial
+    pub multipliers-front : take (p .k + 1) (over xs 0 (take ((p .k + 1) * i + (p .k + 1) - (p .k + 1) * i) (drop ((p .k + 1) * i) ms))) ≡ vector (setOf set .k + 1) ms i
+    multipliers-front =
+        let ys = region ms ((p .k + 1) * i) (p .k + 1) in
+        rw (region-part ms ((p .k + 1) * i) (p .k + 1) ((p .k + 1) * i + (p .k + 1)) refl)
+        (rw part-size at (front xs ys (rw (part-size, size) (multiplier-fits number)))
+        ∙ ap (λ (r : Parameters). region ms ((r .k + 1) * i) (r .k + 1)) e)

@@ -1,0 +1,42 @@
+-- The two parts of a ciphertext over the numbers that the code holds (003, section 2.2.1, algorithm 2; worked as algorithm 41), and what these numbers are.
+-- Assumes nothing.
+use mathlib.Core.Path.{_≡_}
+use mathlib.Core.List.{List}
+use Prim.Native.Nat.{ℕ, _+_, _*_, _%_}
+use lib.ListN.{length}
+use Rattle.maths.specs.Vector.{at, tabulate}
+use Rattle.calls.specs.Region.{vector}
+use Rattle.transforms.specs.Ready.{AllBelow}
+use Rattle.sets.specs.declared.Parameters.{Parameters}
+use Rattle.sets.specs.Derived.{halfModulus, multiplierCount}
+use Rattle.packing.specs.Digits.{pack}
+use Rattle.packing.specs.Dropped.{packDropping}
+use Rattle.packing.specs.Message.{messageBits}
+use Rattle.transformed.specs.Stored.{sent, recovered}
+use Rattle.scheme.specs.Encryption.{publicPolynomial, firstNumbers, secondNumbers, firstBytes, secondBytes}
+
+-- the multipliers r_1, .., r_t as residues, one after the other
+pub record Multipliers (p : Parameters) (xs : List ℕ) : Type 0 where
+  pub size : length xs ≡ multiplierCount p
+  pub residues : AllBelow (p .q) (multiplierCount p) xs
+
+-- b̂_1, .., b̂_t, one after the other, all of them residues
+pub record KeyResidues (p : Parameters) (xs : List ℕ) : Type 0 where
+  pub size : length xs ≡ p .d1 * p .t
+  pub residues : AllBelow (p .q) (p .d1 * p .t) xs
+
+-- line 7: ĉ1 packed, from the seed of the public polynomials and the multipliers
+unfoldable pub firstPart : Parameters → List ℕ → List ℕ → List ℕ
+firstPart p seedpk r = pack (p .width) (firstBytes p) (sent p 2 (firstNumbers p (λ i. vector (p .k + 1) r i) (publicPolynomial p seedpk)))
+
+-- floor(q / 2) times the message added to d numbers
+unfoldable pub messageAdded : Parameters → List ℕ → List ℕ → List ℕ
+messageAdded p sums message = tabulate (p .d) (λ j. (at sums j + halfModulus p * at (messageBits (p .d) message) j) % p .q)
+
+-- c2', from b̂_1, .., b̂_t, the multipliers and the message
+unfoldable pub secondSums : Parameters → List ℕ → List ℕ → List ℕ → List ℕ
+secondSums p b r message = secondNumbers p (λ i. vector (p .k + 1) r i) (λ i. recovered p 1 (p .d + p .k) (vector (p .d1) b i)) (messageBits (p .d) message)
+
+-- line 10: c2' packed without its low bits
+unfoldable pub secondPart : Parameters → List ℕ → List ℕ → List ℕ → List ℕ
+secondPart p b r message = packDropping (p .width) (p .cmp) (secondBytes p) (secondSums p b r message)

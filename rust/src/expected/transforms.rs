@@ -1,0 +1,32 @@
+//! What run_transforms prints.
+
+use super::report::{number_sum, residues};
+use crate::arithmetic::{pointwise, Transform};
+use crate::parameters::{set, Set};
+
+/// The checksums of a vector sent with one transform and recovered with the other.
+fn forth(s: &Set, transform: &Transform, back: &Transform, x: &[u32]) -> String {
+    let sent = transform.forward(x);
+    let recovered = back.scaled(&sent);
+    assert!(recovered[..x.len()] == *x && recovered[x.len()..].iter().all(|&x| x == 0), "set {}", s.number);
+    format!(" {} {}", number_sum(&sent), number_sum(&recovered))
+}
+
+fn case(s: &Set, i: usize, n: usize) -> String {
+    let (forward, inverse) = (Transform::new(s, i, false), Transform::new(s, i, true));
+    let vector = |start| residues(s.sizes[i], start, s.q);
+    let one = forth(s, &forward, &inverse, &vector(1)[..n]);
+    let other = forth(s, &inverse, &forward, &vector(2)[..n]);
+    let correlated = forward.scaled(&pointwise(s.q, &forward.forward(&vector(3)[..n]), &vector(4)));
+    format!("transform {} {} {n}{one}{other} {}\n", s.number, i + 1, number_sum(&correlated))
+}
+
+pub fn text() -> String {
+    let mut text = String::new();
+    for s in (0..13).map(|number| set(number).unwrap()) {
+        for (i, &size) in s.sizes.iter().enumerate() {
+            text += &(case(&s, i, size) + &case(&s, i, size / 2 + 1));
+        }
+    }
+    text
+}
