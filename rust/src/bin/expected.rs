@@ -1,7 +1,7 @@
 //! Writes what each program of crates/run_* must print, crates/run_*/stdout, from this implementation alone. With `--check` it writes
 //! nothing, and fails where a file differs from what it would write. It is run from the repository's root.
 
-use comparison::expected::{draws, middle, numbers, samplers, sponge, transforms};
+use comparison::expected::{draws, encryption, middle, numbers, samplers, sponge, transforms};
 
 fn main() {
     let check = std::env::args().any(|word| word == "--check");
@@ -13,6 +13,7 @@ fn main() {
         ("run_samplers", samplers::text()),
         ("run_transforms", transforms::text()),
         ("run_numbers", numbers::text()),
+        ("run_encryption", encryption::text()),
     ];
     for (program, text) in programs {
         let path = format!("crates/{program}/stdout");
