@@ -153,14 +153,20 @@ const POSITIONS: [[usize; 3]; 12] = [
     [12, 8192, 8192],
 ];
 
+// The position before another.
+fn before(position: usize) -> usize {
+    if position == 0 { 0 } else { position - 1 }
+}
+
 // The last position of a set and one past it, with all bytes of a sealing.
 fn last_positions(bytes: &mut [u8], out: &mut [i32], set: usize, count: usize, signs: usize)
     requires { ⌜ (length (now bytes) ≡ 15300) × (length (now out) ≡ 4097) × (count ≤ 8192) × (signs ≤ 14336) ⌝ }
 {
     let all = at_most(signs + count / 8, 15300);
     let first = at_most(count, 8192);
+    multipliers(bytes, out, set, all, before(first), 1);
+    multipliers(bytes, out, set, all, before(first), 2);
     multipliers(bytes, out, set, all, first, 0);
-    multipliers(bytes, out, set, all, first, 1);
     multipliers(bytes, out, set, all, first / 2, 40);
 }
 

@@ -55,7 +55,7 @@ fn positions(number: usize) -> String {
     let s = set(number).unwrap();
     let (count, signs) = (s.multipliers(), s.multipliers() * s.multiplier_bytes());
     let all = signs + count / 8;
-    let whole = [(all, count, 0), (all, count, 1), (all, count / 2, 40)];
+    let whole = [(all, count - 1, 1), (all, count - 1, 2), (all, count, 0), (all, count / 2, 40)];
     let cut_short = [(signs + 1, 0, 10), (signs, 0, 10), (signs / 2, 3, 4), (5, count, 0)];
     let cases = whole.iter().chain(&cut_short);
     cases.map(|&(lent, first, wanted)| multipliers_line(number, lent, first, wanted)).collect()
