@@ -8,7 +8,7 @@ ghost use Rattle.calls.specs.Checks.{allOf};
 ghost use Rattle.sets.specs.Table.{setOf};
 ghost use Rattle.sets.specs.Derived.{isEncryption, sealedBytes};
 ghost use Rattle.scheme.specs.Encryption.{secretSeed, publicKey, ciphertext, readMessage};
-ghost use Rattle.scheme.specs.Answers.{refuseSet, workLength, workLeft, encryptionKeyLengths, encryptLengths, decryptLengths, readingDraws, encryptionKeyAnswer, encryptAnswer, decryptAnswer};
+ghost use Rattle.scheme.specs.Answers.{refuseSet, workLength, workLeft, keyLengths, encryptLengths, openingLengths, readingDraws, encryptionKeyAnswer, encryptAnswer, decryptAnswer};
 
 // Refused with 1 when the set is not 1 to 12, with 8 when it is not an encryption set.
 fn set_checked(set: usize) -> Answer
@@ -29,7 +29,7 @@ fn set_checked(set: usize) -> Answer
 // Whether the slices of key have the set's lengths.
 fn key_fits(set: usize, seed: usize, public: usize, secret: usize, work: usize) -> bool
     requires { ⌜ set < 13 ⌝ }
-    ensures { λ r. ⌜ r ≡ allOf (encryptionKeyLengths set seed public secret work) ⌝ }
+    ensures { λ r. ⌜ r ≡ allOf (keyLengths set seed public secret work) ⌝ }
 {
     let p = sets::parameters_of(set);
     let public_bytes = sets::derived::public_key_bytes(p);
@@ -80,7 +80,7 @@ fn encrypt_fits(
 // Whether the slices of decrypt have the set's lengths.
 fn decrypt_fits(set: usize, secret: usize, sealed: usize, message: usize, work: usize) -> bool
     requires { ⌜ set < 13 ⌝ }
-    ensures { λ r. ⌜ r ≡ allOf (decryptLengths set secret sealed message work) ⌝ }
+    ensures { λ r. ⌜ r ≡ allOf (openingLengths set secret sealed message work) ⌝ }
 {
     let secret_bytes = sets::derived::secret_key_bytes(set);
     let sealed_bytes = sets::derived::ciphertext_bytes(set);
@@ -108,7 +108,7 @@ pub fn key(
     ensures answer { λ r. ⌜ outcome r ≡ encryptionKeyAnswer set (now (seed .entry)) (length (now (public .entry))) (length (now (secret .entry))) (length (now (work .entry))) ⌝ }
     ensures given { λ _. ⌜ now (public .exit) ≡ leaves (encryptionKeyAnswer set (now (seed .entry)) (length (now (public .entry))) (length (now (secret .entry))) (length (now (work .entry)))) (publicKey (setOf set) (now (seed .entry))) (now (public .entry)) ⌝ }
     ensures kept { λ _. ⌜ now (secret .exit) ≡ leaves (encryptionKeyAnswer set (now (seed .entry)) (length (now (public .entry))) (length (now (secret .entry))) (length (now (work .entry)))) (secretSeed (setOf set) (now (seed .entry))) (now (secret .entry)) ⌝ }
-    ensures cleared { λ _. ⌜ now (work .exit) ≡ workLeft isEncryption set (encryptionKeyLengths set (length (now (seed .entry))) (length (now (public .entry))) (length (now (secret .entry))) (length (now (work .entry)))) (now (work .entry)) ⌝ }
+    ensures cleared { λ _. ⌜ now (work .exit) ≡ workLeft isEncryption set (keyLengths set (length (now (seed .entry))) (length (now (public .entry))) (length (now (secret .entry))) (length (now (work .entry)))) (now (work .entry)) ⌝ }
 {
     let checked = set_checked(set);
     let Answer::Done = checked else {
@@ -182,7 +182,7 @@ pub fn decrypt(
 ) -> Answer
     ensures answer { λ r. ⌜ outcome r ≡ decryptAnswer set (now (secret .entry)) (now (sealed .entry)) (length (now (message .entry))) (length (now (work .entry))) ⌝ }
     ensures read { λ _. ⌜ now (message .exit) ≡ leaves (decryptAnswer set (now (secret .entry)) (now (sealed .entry)) (length (now (message .entry))) (length (now (work .entry)))) (readMessage (setOf set) (now (secret .entry)) (now (sealed .entry))) (now (message .entry)) ⌝ }
-    ensures cleared { λ _. ⌜ now (work .exit) ≡ workLeft isEncryption set (decryptLengths set (length (now (secret .entry))) (length (now (sealed .entry))) (length (now (message .entry))) (length (now (work .entry)))) (now (work .entry)) ⌝ }
+    ensures cleared { λ _. ⌜ now (work .exit) ≡ workLeft isEncryption set (openingLengths set (length (now (secret .entry))) (length (now (sealed .entry))) (length (now (message .entry))) (length (now (work .entry)))) (now (work .entry)) ⌝ }
 {
     let checked = set_checked(set);
     let Answer::Done = checked else {

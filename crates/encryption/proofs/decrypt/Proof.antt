@@ -15,7 +15,7 @@ use Rattle.sets.specs.Table.{setOf}
 use Rattle.sets.specs.Derived.{isEncryption}
 use Rattle.sets.proofs.Lengths.{secret-other, ciphertext-other}
 use Rattle.scheme.specs.Encryption.{readMessage}
-use Rattle.scheme.specs.Answers.{refuseSet, decryptLengths, decryptAnswer}
+use Rattle.scheme.specs.Answers.{refuseSet, openingLengths, decryptAnswer}
 use Rattle.scheme.proofs.Answers.{set-range, encryption-only, by-set, by-lengths, by-draws}
 use Rattle.encryption.proofs.decrypt.Statement.{statement}
 use Rattle.encryption.proofs.decrypt.Tie as tie
@@ -43,7 +43,7 @@ returns-2 c =
     (sym (answered .0), (sym (leaves-refused _ _ (answered .0)), answered .1))
 
 -- the lengths are the set's
-fits : (c : tie.Else1) → allOf (decryptLengths (c .before .before .before .before .before .before .before .before .before .args .set) (length (c .before .before .before .before .before .before .before .before .before .args .secret .now)) (length (c .before .before .before .before .before .before .before .before .before .args .sealed .now)) (length (c .before .before .before .before .before .before .before .before .before .args .message .now)) (length (c .before .before .before .before .before .before .before .before .before .args .work .now))) ≡ true
+fits : (c : tie.Else1) → allOf (openingLengths (c .before .before .before .before .before .before .before .before .before .args .set) (length (c .before .before .before .before .before .before .before .before .before .args .secret .now)) (length (c .before .before .before .before .before .before .before .before .before .args .sealed .now)) (length (c .before .before .before .before .before .before .before .before .before .args .message .now)) (length (c .before .before .before .before .before .before .before .before .before .args .work .now))) ≡ true
 fits c = sym (c .before .decrypt-fits .ensures) ∙ not-false _ (c .if1 .left)
 
 decrypt-checked-requires : tie.Need-decrypt-checked-requires

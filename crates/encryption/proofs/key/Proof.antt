@@ -15,7 +15,7 @@ use Rattle.sets.specs.Table.{setOf}
 use Rattle.sets.specs.Derived.{isEncryption}
 use Rattle.sets.proofs.Lengths.{secret-other}
 use Rattle.scheme.specs.Encryption.{secretSeed, publicKey}
-use Rattle.scheme.specs.Answers.{refuseSet, encryptionKeyLengths, encryptionKeyAnswer}
+use Rattle.scheme.specs.Answers.{refuseSet, keyLengths, encryptionKeyAnswer}
 use Rattle.scheme.proofs.Answers.{set-range, encryption-only, by-set, by-lengths, by-draws}
 use Rattle.encryption.proofs.key.Statement.{statement}
 use Rattle.encryption.proofs.key.Tie as tie
@@ -43,7 +43,7 @@ returns-2 c =
     (sym (answered .0), (sym (leaves-refused _ _ (answered .0)), (sym (leaves-refused _ _ (answered .0)), answered .1)))
 
 -- the lengths are the set's
-fits : (c : tie.Else1) → allOf (encryptionKeyLengths (c .before .before .before .before .before .before .before .before .before .args .set) (length (c .before .before .before .before .before .before .before .before .before .args .seed .now)) (length (c .before .before .before .before .before .before .before .before .before .args .public .now)) (length (c .before .before .before .before .before .before .before .before .before .args .secret .now)) (length (c .before .before .before .before .before .before .before .before .before .args .work .now))) ≡ true
+fits : (c : tie.Else1) → allOf (keyLengths (c .before .before .before .before .before .before .before .before .before .args .set) (length (c .before .before .before .before .before .before .before .before .before .args .seed .now)) (length (c .before .before .before .before .before .before .before .before .before .args .public .now)) (length (c .before .before .before .before .before .before .before .before .before .args .secret .now)) (length (c .before .before .before .before .before .before .before .before .before .args .work .now))) ≡ true
 fits c = sym (c .before .key-fits .ensures) ∙ not-false _ (c .if1 .left)
 
 generate-requires : tie.Need-generate-requires
