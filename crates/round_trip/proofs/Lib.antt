@@ -1,0 +1,3 @@
+pub mod Then
+pub mod Draws
+pub mod SealAndRead

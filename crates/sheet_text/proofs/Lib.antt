@@ -1,0 +1,5 @@
+pub mod DecimalLaws
+pub mod WrittenLaws
+pub mod SignedWord
+pub mod OrderLaws
+pub mod TextLaws

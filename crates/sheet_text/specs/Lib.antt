@@ -1,0 +1,4 @@
+pub mod Decimal
+pub mod Order
+pub mod Text
+pub mod Written
