@@ -179,3 +179,41 @@ pub fn fill_residues(values: &mut [u32], start: u64, q: u32)
         i += 1;
     }
 }
+
+// A number, or the limit where it is above that.
+pub fn at_most(x: usize, limit: usize) -> usize
+    ensures { λ r. ⌜ r ≤ limit ⌝ }
+{
+    if limit < x { limit } else { x }
+}
+
+// A length, or one more or one less where it is the one to change: 1 and 2 are one more and one less of the first slice, 3 and 4 of the
+// second, and so on.
+pub fn changed(length: usize, slice: usize, change: usize) -> usize
+    requires { ⌜ (length ≤ 30000) × (slice ≤ 10) ⌝ }
+    ensures { λ r. ⌜ r ≤ length + 1 ⌝ }
+{
+    if change == 2 * slice + 1 {
+        return length + 1;
+    }
+    if change == 2 * slice + 2 && 0 < length {
+        return length - 1;
+    }
+    length
+}
+
+// Prints the name of a call, its set, and which length was changed.
+pub fn call(name: &[u8], set: usize, change: usize) {
+    text(name);
+    number(set as u64);
+    number(change as u64);
+}
+
+// Three bytes of ones: a packed number there is above every modulus.
+pub fn enlarge(bytes: &mut [u8], place: usize)
+    requires { ⌜ place + 3 ≤ length (now bytes) ⌝ }
+{
+    bytes[place] = 255;
+    bytes[place + 1] = 255;
+    bytes[place + 2] = 255;
+}

@@ -72,13 +72,6 @@ fn multipliers(
     report::end();
 }
 
-// A number, or the limit where it is above that.
-fn at_most(x: usize, limit: usize) -> usize
-    ensures { λ r. ⌜ r ≤ limit ⌝ }
-{
-    if limit < x { limit } else { x }
-}
-
 // Set, bytes lent, results wanted, first candidate set aside and how many: counts of results at the limit and one past it, bytes that end
 // one short or exactly, then 127 and 128 candidates set aside in a row, at the first result and at a later one.
 const RESIDUES: [[usize; 5]; 23] = [
@@ -118,10 +111,10 @@ fn all_residues(bytes: &mut [u8], out: &mut [u32])
             bytes,
             out,
             case[0],
-            at_most(case[1], 15300),
-            at_most(case[2], 4097),
-            at_most(case[3], 1000),
-            at_most(case[4], 1000),
+            report::at_most(case[1], 15300),
+            report::at_most(case[2], 4097),
+            report::at_most(case[3], 1000),
+            report::at_most(case[4], 1000),
         );
         i += 1;
     }
@@ -162,8 +155,8 @@ fn before(position: usize) -> usize {
 fn last_positions(bytes: &mut [u8], out: &mut [i32], set: usize, count: usize, signs: usize)
     requires { ⌜ (length (now bytes) ≡ 15300) × (length (now out) ≡ 4097) × (count ≤ 8192) × (signs ≤ 14336) ⌝ }
 {
-    let all = at_most(signs + count / 8, 15300);
-    let first = at_most(count, 8192);
+    let all = report::at_most(signs + count / 8, 15300);
+    let first = report::at_most(count, 8192);
     multipliers(bytes, out, set, all, before(first), 1);
     multipliers(bytes, out, set, all, before(first), 2);
     multipliers(bytes, out, set, all, first, 0);
@@ -188,8 +181,8 @@ fn all_positions(bytes: &mut [u8], out: &mut [i32])
     while i < 12 {
         let row = POSITIONS[i];
         let set = row[0];
-        let count = at_most(row[1], 8192);
-        let signs = at_most(row[2], 14336);
+        let count = report::at_most(row[1], 8192);
+        let signs = report::at_most(row[2], 14336);
         last_positions(bytes, out, set, count, signs);
         cut_short(bytes, out, set, count, signs);
         i += 1;

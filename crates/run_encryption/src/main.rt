@@ -3,13 +3,6 @@ ghost use mathlib.Core.Path.{_≡_};
 ghost use Prim.Native.Nat.{_+_, _<_, _≤_};
 ghost use lib.ListN.{length};
 
-// A number, or the limit where it is above that.
-fn at_most(x: usize, limit: usize) -> usize
-    ensures { λ r. ⌜ r ≤ limit ⌝ }
-{
-    if limit < x { limit } else { x }
-}
-
 // Set, bytes of a public key and of a ciphertext, numbers of the work slice; the first and the last three are no encryption sets.
 const SETS: [[usize; 4]; 10] = [
     [0, 11552, 2560, 12022],
@@ -24,28 +17,6 @@ const SETS: [[usize; 4]; 10] = [
     [13, 26912, 8320, 25080],
 ];
 
-// A length, or one more or one less where it is the one to change: 1 and 2 are one more and one less of the first slice, 3 and 4 of the
-// second, and so on.
-fn changed(length: usize, slice: usize, change: usize) -> usize
-    requires { ⌜ (length ≤ 30000) × (slice ≤ 10) ⌝ }
-    ensures { λ r. ⌜ r ≤ length + 1 ⌝ }
-{
-    if change == 2 * slice + 1 {
-        return length + 1;
-    }
-    if change == 2 * slice + 2 && 0 < length {
-        return length - 1;
-    }
-    length
-}
-
-// Prints the name of a call, its set, and which length was changed.
-fn case(name: &[u8], set: usize, change: usize) {
-    report::text(name);
-    report::number(set as u64);
-    report::number(change as u64);
-}
-
 // Key with the lengths of a set, one of them changed; `seed` has 33 bytes.
 fn key(
     row: [usize; 4],
@@ -57,10 +28,16 @@ fn key(
 )
     requires { ⌜ (length (now seed) ≡ 33) × (length (now public) ≡ 26913) × (length (now secret) ≡ 33) × (length (now work) ≡ 25081) ⌝ }
 {
-    let a = at_most(changed(32, 0, change), 33);
-    let b = at_most(changed(at_most(row[1], 26912), 1, change), 26913);
-    let c = at_most(changed(32, 2, change), 33);
-    let d = at_most(changed(at_most(row[3], 25080), 3, change), 25081);
+    let a = report::at_most(report::changed(32, 0, change), 33);
+    let b = report::at_most(
+        report::changed(report::at_most(row[1], 26912), 1, change),
+        26913,
+    );
+    let c = report::at_most(report::changed(32, 2, change), 33);
+    let d = report::at_most(
+        report::changed(report::at_most(row[3], 25080), 3, change),
+        25081,
+    );
     let answer = encryption::key(
         row[0],
         &seed[0..a],
@@ -68,7 +45,7 @@ fn key(
         &mut secret[0..c],
         &mut work[0..d],
     );
-    case(b"key", row[0], change);
+    report::call(b"key", row[0], change);
     report::answer(answer);
 }
 
@@ -84,11 +61,20 @@ fn encrypt(
 )
     requires { ⌜ (length (now public) ≡ 26913) × (length (now message) ≡ 33) × (length (now seed) ≡ 33) × (length (now sealed) ≡ 8321) × (length (now work) ≡ 25081) ⌝ }
 {
-    let a = at_most(changed(at_most(row[1], 26912), 0, change), 26913);
-    let b = at_most(changed(32, 1, change), 33);
-    let c = at_most(changed(32, 2, change), 33);
-    let d = at_most(changed(at_most(row[2], 8320), 3, change), 8321);
-    let e = at_most(changed(at_most(row[3], 25080), 4, change), 25081);
+    let a = report::at_most(
+        report::changed(report::at_most(row[1], 26912), 0, change),
+        26913,
+    );
+    let b = report::at_most(report::changed(32, 1, change), 33);
+    let c = report::at_most(report::changed(32, 2, change), 33);
+    let d = report::at_most(
+        report::changed(report::at_most(row[2], 8320), 3, change),
+        8321,
+    );
+    let e = report::at_most(
+        report::changed(report::at_most(row[3], 25080), 4, change),
+        25081,
+    );
     let answer = encryption::encrypt(
         row[0],
         &public[0..a],
@@ -97,7 +83,7 @@ fn encrypt(
         &mut sealed[0..d],
         &mut work[0..e],
     );
-    case(b"encrypt", row[0], change);
+    report::call(b"encrypt", row[0], change);
     report::answer(answer);
 }
 
@@ -112,10 +98,16 @@ fn decrypt(
 )
     requires { ⌜ (length (now secret) ≡ 33) × (length (now sealed) ≡ 8321) × (length (now read) ≡ 33) × (length (now work) ≡ 25081) ⌝ }
 {
-    let a = at_most(changed(32, 0, change), 33);
-    let b = at_most(changed(at_most(row[2], 8320), 1, change), 8321);
-    let c = at_most(changed(32, 2, change), 33);
-    let d = at_most(changed(at_most(row[3], 25080), 3, change), 25081);
+    let a = report::at_most(report::changed(32, 0, change), 33);
+    let b = report::at_most(
+        report::changed(report::at_most(row[2], 8320), 1, change),
+        8321,
+    );
+    let c = report::at_most(report::changed(32, 2, change), 33);
+    let d = report::at_most(
+        report::changed(report::at_most(row[3], 25080), 3, change),
+        25081,
+    );
     let answer = encryption::decrypt(
         row[0],
         &secret[0..a],
@@ -123,7 +115,7 @@ fn decrypt(
         &mut read[0..c],
         &mut work[0..d],
     );
-    case(b"decrypt", row[0], change);
+    report::call(b"decrypt", row[0], change);
     report::answer(answer);
 }
 
@@ -242,20 +234,11 @@ fn flipped(
     decrypt_line(row, 0, secret, sealed, read, work);
 }
 
-// Three bytes of ones: a packed number there is above every modulus.
-fn enlarge(bytes: &mut [u8], place: usize)
-    requires { ⌜ place + 3 ≤ length (now bytes) ⌝ }
-{
-    bytes[place] = 255;
-    bytes[place + 1] = 255;
-    bytes[place + 2] = 255;
-}
-
 // Ciphertexts with a bit changed in the last byte, then in c2, then at the start too.
 fn damaged(row: [usize; 4], secret: &[u8], sealed: &mut [u8], read: &mut [u8], work: &mut [u32])
     requires { ⌜ (length (now secret) ≡ 33) × (length (now sealed) ≡ 8321) × (length (now read) ≡ 33) × (length (now work) ≡ 25081) ⌝ }
 {
-    let end = at_most(row[2], 8320);
+    let end = report::at_most(row[2], 8320);
     if end < 300 {
         return;
     }
@@ -274,7 +257,7 @@ fn large_number(
 )
     requires { ⌜ (length (now secret) ≡ 33) × (length (now sealed) ≡ 8321) × (length (now read) ≡ 33) × (length (now work) ≡ 25081) ⌝ }
 {
-    enlarge(sealed, 0);
+    report::enlarge(sealed, 0);
     decrypt_line(row, 0, secret, sealed, read, work);
 }
 
@@ -289,7 +272,7 @@ fn large_key(
 )
     requires { ⌜ (length (now public) ≡ 26913) × (length (now message) ≡ 33) × (length (now seed) ≡ 33) × (length (now sealed) ≡ 8321) × (length (now work) ≡ 25081) ⌝ }
 {
-    enlarge(public, 32);
+    report::enlarge(public, 32);
     encrypt_line(row, 0, public, message, seed, sealed, work);
 }
 

@@ -94,13 +94,6 @@ fn both(
     transformed(set, &a[0..n], &b[0..m], out, results, work, size_of(set));
 }
 
-// A number, or the limit where it is above that.
-fn at_most(x: usize, limit: usize) -> usize
-    ensures { λ r. ⌜ r ≤ limit ⌝ }
-{
-    if limit < x { limit } else { x }
-}
-
 // Lengths of a, of b and of the result: the shortest, those around 4,096, empty slices, and a b that is one short and one long.
 const LENGTHS: [[usize; 3]; 21] = [
     [1, 1, 1],
@@ -139,9 +132,9 @@ fn all_lengths(set: usize, a: &[u32], b: &[u32], out: &mut [u32], work: &mut [u3
             b,
             out,
             work,
-            at_most(row[0], 4097),
-            at_most(row[1], 4097),
-            at_most(row[2], 4097),
+            report::at_most(row[0], 4097),
+            report::at_most(row[1], 4097),
+            report::at_most(row[2], 4097),
         );
         i += 1;
     }
@@ -209,17 +202,17 @@ fn all_wrong(set: usize, a: &mut [u32], b: &mut [u32], out: &mut [u32], work: &m
     let mut i: usize = 0;
     while i < 12 {
         let row = WRONG[i];
-        fill(a, 3, q, at_most(row[3], 5000));
-        fill(b, 4, q, at_most(row[4], 5000));
+        fill(a, 3, q, report::at_most(row[3], 5000));
+        fill(b, 4, q, report::at_most(row[4], 5000));
         both(
             set,
             a,
             b,
             out,
             work,
-            at_most(row[0], 4097),
-            at_most(row[1], 4097),
-            at_most(row[2], 4097),
+            report::at_most(row[0], 4097),
+            report::at_most(row[1], 4097),
+            report::at_most(row[2], 4097),
         );
         i += 1;
     }

@@ -3,23 +3,16 @@ ghost use mathlib.Core.Path.{_≡_};
 ghost use Prim.Native.Nat.{_≤_, _<_};
 ghost use lib.ListN.{length};
 
-// A number, or the limit where it is above that.
-fn at_most(x: usize, limit: usize) -> usize
-    ensures { λ r. ⌜ r ≤ limit ⌝ }
-{
-    if limit < x { limit } else { x }
-}
-
 // A length of a slice that has room for it, one less where slice number `short` is this one.
 fn cut(x: usize, limit: usize, short: usize, slice: usize) -> usize
     ensures { λ r. ⌜ r ≤ limit ⌝ }
 {
     if short == slice {
         if 0 < x {
-            return at_most(x - 1, limit);
+            return report::at_most(x - 1, limit);
         }
     }
-    at_most(x, limit)
+    report::at_most(x, limit)
 }
 
 // A place, or one past every slice where the wrong number is not to stand there.

@@ -1,10 +1,10 @@
--- `run_encryption::enlarge` is safe and ends.
+-- `report::enlarge` is safe and ends.
 -- Assumes nothing.
 use lib.ListN.{length-set}
 use native.Mathlib.Omega.{arith}
 use borrow.Author.Needs.{needs}
-use Rattle.run_encryption.proofs.enlarge.Statement.{statement}
-use Rattle.run_encryption.proofs.enlarge.Tie as tie
+use Rattle.report.proofs.enlarge.Statement.{statement}
+use Rattle.report.proofs.enlarge.Tie as tie
 
 slice-write-bytes-2 : tie.Need-slice-write-bytes-2
 slice-write-bytes-2 c = simp length-set (omega arith)
