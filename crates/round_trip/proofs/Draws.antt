@@ -6,7 +6,8 @@ use mathlib.Core.List.{List}
 use Prim.Native.Nat.{ℕ, _<_}
 use native.Mathlib.Omega.{arith}
 use borrow.Author.Tests.{lt-ltb, le-ltb, not-false}
-use lib.ListN.{length}
+use lib.ListN.{length, take, drop}
+use lib.Seq.{take-at, drop-at}
 use Rattle.maths.specs.Vector.{at}
 use Rattle.calls.specs.Outcome.{accepted}
 use Rattle.calls.specs.Checks.{passing, below}
@@ -15,8 +16,9 @@ use Rattle.calls.proofs.Checks.{passing-all}
 use Rattle.sets.specs.declared.Parameters.{Parameters}
 use Rattle.samplers.specs.Seeded.{secretDrawn, publicDrawn}
 use Rattle.scheme.specs.Encryption.{secretSeed, publicSeed, publicKey, keyNumbers, ciphertext, cipherFirst}
+use Rattle.scheme.specs.Exchange.{innerSeed, exchangePublicKey, exchangeSecretKey}
 use Rattle.scheme.specs.Conditions.{Conditions}
-use Rattle.scheme.specs.Answers.{isTaken, allTaken, allBelow, keyDraws, sealingDraws, secretDraw, readingDraws}
+use Rattle.scheme.specs.Answers.{isTaken, allTaken, allBelow, keyDraws, sealingDraws, secretDraw, readingDraws, decapsulationDraws}
 use Rattle.scheme.proofs.Answers.{reading-passed}
 use Rattle.scheme.proofs.Bytes.{keySeed-back, keyNumbers-below, cipherFirst-below}
 
@@ -52,3 +54,29 @@ module _ {p : Parameters} (c : Conditions p) (seed : List ℕ) (drawn : keyDraws
   reading-drawn pk message sealing =
       reading-passed p (secretSeed p seed) (ciphertext p pk message sealing) (all-below (p .q) (cipherFirst p (ciphertext p pk message sealing)) (cipherFirst-below c pk message sealing))
       ∙ secret-drawn
+
+module _ {p : Parameters} (c : Conditions p) (seed : List ℕ) (drawn : keyDraws p (innerSeed p seed) ≡ accepted) where
+  -- encapsulating under the public key of the key exchange
+  pub encapsulation-drawn : sealingDraws p (exchangePublicKey p seed) ≡ accepted
+  unfolding exchangePublicKey
+  encapsulation-drawn = sealing-drawn c (innerSeed p seed) drawn
+
+  -- the numbers of that key are below q
+  public-below : allBelow (p .q) (keyNumbers p (exchangePublicKey p seed)) ≡ true
+  unfolding exchangePublicKey
+  public-below = all-below (p .q) (keyNumbers p (publicKey p (innerSeed p seed))) (keyNumbers-below c (innerSeed p seed))
+
+  module _ (size : length seed ≡ 32) where
+    -- the two parts of the secret key of the key exchange
+    seed-part : take 32 (exchangeSecretKey p seed) ≡ seed
+    unfolding exchangeSecretKey
+    seed-part = take-at seed _ 32 size
+
+    public-part : drop 32 (exchangeSecretKey p seed) ≡ exchangePublicKey p seed
+    unfolding exchangeSecretKey
+    public-part = drop-at seed _ 32 size
+
+    -- decapsulating with that secret key, which reads and seals again
+    pub decapsulation-drawn : decapsulationDraws p (exchangeSecretKey p seed) ≡ accepted
+    unfolding decapsulationDraws
+    decapsulation-drawn = rw (seed-part, public-part, public-below, key-drawn p (innerSeed p seed) drawn .0) encapsulation-drawn

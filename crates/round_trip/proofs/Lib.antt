@@ -1,3 +1,4 @@
 pub mod Then
 pub mod Draws
 pub mod SealAndRead
+pub mod ShareAKey

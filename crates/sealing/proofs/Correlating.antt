@@ -1,12 +1,12 @@
 -- The second part of a ciphertext: the products with the stored b_i added up, the correlations they recover to, and the message.
 -- Assumes nothing.
 use mathlib.Core.Path.{_≡_, refl, sym, ap, _∙_}
-use mathlib.Core.List.{List}
+use mathlib.Core.List.{List, _++_}
 use Prim.Native.Nat.{ℕ, zero, suc, _+_, _-_, _*_, _%_, _^_, _≤_, _<_}
 use native.Mathlib.Nat.{sub-zero, mod-lt}
 use native.Mathlib.Omega.{arith}
 use lib.ListN.{length, take, drop, replicate}
-use lib.Seq.{getD-take}
+use lib.Seq.{getD-take, take-at}
 use Rattle.maths.specs.Vector.{at, tabulate}
 use Rattle.maths.specs.Sum.{sum}
 use Rattle.maths.specs.Product.{correlation}
@@ -32,6 +32,11 @@ use Rattle.transformed.proofs.Recovered.{recovered-take}
 use Rattle.scheme.specs.Encryption.{secondNumbers, secondBytes}
 use Rattle.sealing.specs.Parts.{Multipliers, KeyResidues, messageAdded, secondSums, secondPart}
 use Rattle.sealing.proofs.Multiplied.{first-size, front-length, residue-digits, vector-within, vector-room}
+
+-- a part that begins at the first place
+pub region-front : (xs ys : List ℕ) (n m : ℕ) → n ≡ m → take m xs ≡ ys → region xs 0 n ≡ ys
+unfolding region
+region-front xs ys n m e front = rw e front
 
 -- a bit times a residue is a residue
 pub bit-times : (half bit q : ℕ) → bit < 2 → half < q → half * bit < q
@@ -85,11 +90,10 @@ module _ (set : ℕ) (low : set < 13) where
         record { each = λ k h. rw (sub-zero, getD-take (p .d) total k 0 (omega arith), made) (recovered-placed set low 1 ys .residues .each k (omega (arith, message-fits))) }
 
     -- the message added, as the code adds it
-    pub message-packed : (numbers bits message result : List ℕ) (half count len : ℕ) → length numbers ≡ setOf set .d → bits ≡ messageBits count message → count ≡ setOf set .d → half ≡ halfModulus p
-        → result ≡ tabulate (length numbers) (λ j. (at numbers j + half * at bits j) % p .q)
-        → packDropping (p .width) (p .cmp) len result ≡ packDropping (setOf set .width) (setOf set .cmp) len (messageAdded (setOf set) numbers message)
+    pub message-added : (numbers bits message result : List ℕ) (half count : ℕ) → length numbers ≡ setOf set .d → bits ≡ messageBits count message → count ≡ setOf set .d → half ≡ halfModulus p
+        → result ≡ tabulate (length numbers) (λ j. (at numbers j + half * at bits j) % p .q) → result ≡ messageAdded (setOf set) numbers message
     unfolding messageAdded
-    message-packed numbers bits message result half count len size bits-is counted half-is made = rw (made, size, bits-is, counted, half-is, e)
+    message-added numbers bits message result half count size bits-is counted half-is made = rw (made, size, bits-is, counted, half-is, e)
 
   module _ (numbers ms : List ℕ) where
     -- the part of b̂_i
@@ -144,6 +148,22 @@ module _ (set : ℕ) (low : set < 13) where
         → total ≡ totals (setOf set .q) (transformSize (setOf set) 1) (setOf set .t) (λ j. sent (setOf set) 1 (vector (setOf set .k + 1) ms j)) (λ j. vector (setOf set .d1) numbers j)
     correlating-all {i = i} a h = let all : i ≡ setOf set .t = omega arith in rw all at (a .sum)
 
+    -- c2' has d numbers
+    sums-length : (message : List ℕ) → length (secondSums (setOf set) numbers ms message) ≡ setOf set .d
+    unfolding secondSums secondNumbers
+    sums-length message = tabulate-length (setOf set .d) _
+
+    module _ (p : Parameters) (e : p ≡ setOf set) (message sums : List ℕ) where
+      -- which are digits of the set's width
+      pub second-digits : sums ≡ secondSums (setOf set) numbers ms message → Digit (p .width) sums
+      unfolding secondSums secondNumbers
+      second-digits made = rw e (reduced-digits (setOf set) (rules set low) sums _ _ made)
+
+      -- packed, they are the second part
+      pub second-packed : (len : ℕ) → len ≡ secondBytes (setOf set) → sums ≡ secondSums (setOf set) numbers ms message → packDropping (p .width) (p .cmp) len sums ≡ secondPart (setOf set) numbers ms message
+      unfolding secondPart
+      second-packed len l made = rw (e, l, made)
+
     module _ (m : Multipliers (setOf set) ms) where
       -- a multiplier polynomial has k + 1 numbers
       multiplier-length : (i : ℕ) → i < setOf set .t → length (vector (setOf set .k + 1) ms i) ≡ setOf set .k + 1
@@ -182,10 +202,11 @@ module _ (set : ℕ) (low : set < 13) where
       second-sums message =
           tabulate-cong (setOf set .d) _ _ (λ j h. rw (sums-at j h) (mod-add (mod-remainder (setOf set .q) _) (mod-refl (halfModulus (setOf set) * at (messageBits (setOf set .d) message) j)) .same))
 
-      -- packed, they are the second part
-      pub second-packed : (p : Parameters) → p ≡ setOf set → (message total : List ℕ) (len : ℕ) → len ≡ secondBytes (setOf set)
+      -- as they stand at the front of the total
+      pub second-front : (p : Parameters) → p ≡ setOf set → (message total front : List ℕ)
           → total ≡ recovered (setOf set) 1 (transformSize (setOf set) 1) (totals (setOf set .q) (transformSize (setOf set) 1) (setOf set .t) (λ i. sent (setOf set) 1 (vector (setOf set .k + 1) ms i)) (λ i. vector (setOf set .d1) numbers i))
-          → packDropping (setOf set .width) (setOf set .cmp) len (messageAdded (setOf set) (take (p .d - 0) (drop 0 total)) message) ≡ secondPart (setOf set) numbers ms message
-      unfolding secondPart
-      second-packed p e message total len l made =
-          rw (e, l, sub-zero, made) (ap (packDropping (setOf set .width) (setOf set .cmp) (secondBytes (setOf set))) (second-sums message))
+          → front ≡ messageAdded (setOf set) (take (p .d - 0) (drop 0 total)) message
+          → take (setOf set .d) (take 0 total ++ (front ++ drop (p .d - 0) (drop 0 total))) ≡ secondSums (setOf set) numbers ms message
+      second-front p e message total front made added =
+          let same : front ≡ secondSums (setOf set) numbers ms message = added ∙ rw (e, sub-zero, made) (second-sums message) in
+          take-at front (drop (p .d - 0) (drop 0 total)) (setOf set .d) (ap length same ∙ sums-length message) ∙ same

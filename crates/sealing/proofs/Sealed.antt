@@ -18,9 +18,10 @@ use Rattle.maths.proofs.Vector.{at-past}
 use Rattle.maths.proofs.Integer.{residue-lt}
 use Rattle.calls.specs.Outcome.{Outcome, accepted, refused, refuse, leaves}
 use Rattle.calls.specs.Checks.{passing, below}
+use Rattle.calls.specs.Region.{region}
 use Rattle.calls.proofs.Outcome.{leaves-refused, leaves-accepted, refuse-true, refuse-false, accepted-call}
 use Rattle.calls.proofs.Checks.{passing-within, passing-below}
-use Rattle.calls.proofs.Region.{over-lent, over-length}
+use Rattle.calls.proofs.Region.{region-part, over-lent, over-length}
 use Rattle.sets.specs.declared.Parameters.{Parameters}
 use Rattle.sets.specs.Table.{setOf}
 use Rattle.sets.specs.Derived.{multiplierCount, packedBytes, publicKeyBytes, sealedBytes}
@@ -31,7 +32,7 @@ use Rattle.samplers.specs.Seeded.{publicDrawn, multipliersDrawn}
 use Rattle.samplers.proofs.Values.{multipliersDrawn-length}
 use Rattle.scheme.specs.Answers.{workLength, allTaken, allBelow, sealingDraws}
 use Rattle.scheme.specs.Encryption.{residueVector, keySeed, keyNumbers, keyPolynomial, multiplierVector, sealedNumbers, firstBytes, secondBytes, ciphertext}
-use Rattle.sealing.specs.Parts.{Multipliers, KeyResidues, firstPart, secondSums, secondPart}
+use Rattle.sealing.specs.Parts.{Multipliers, KeyResidues, Loaded, firstPart, secondSums, secondPart}
 
 -- a slice whose first n entries came back as ys keeps its length
 pub back-length : (xs ys : List ℕ) (n : ℕ) → length ys ≡ n → n ≤ length xs → length (take 0 xs ++ (ys ++ drop (n - 0) (drop 0 xs))) ≡ length xs
@@ -87,14 +88,6 @@ module _ (xs ys zs : List ℕ) (n end : ℕ) (l : length ys ≡ n) (m : length z
   -- the part of those after them
   pub second-part : take (end - n) (drop n (take n (take 0 xs ++ (ys ++ drop (n - 0) (drop 0 xs))) ++ (zs ++ drop (end - n) (drop n (take 0 xs ++ (ys ++ drop (n - 0) (drop 0 xs))))))) ≡ zs
   second-part = rw (front-is, drop-at ys (zs ++ drop (end - n) (drop n (take 0 xs ++ (ys ++ drop (n - 0) (drop 0 xs))))) n l) (take-at zs _ (end - n) m)
-
--- a slice of which two parts came back keeps its length
-pub twice-length : (xs ys zs : List ℕ) (n end : ℕ) → length ys ≡ n → n ≤ end → end ≤ length xs → length zs ≡ end - n
-    → length (take n (take 0 xs ++ (ys ++ drop (n - 0) (drop 0 xs))) ++ (zs ++ drop (end - n) (drop n (take 0 xs ++ (ys ++ drop (n - 0) (drop 0 xs)))))) ≡ length xs
-twice-length xs ys zs n end l before h m =
-    let once : List ℕ = take 0 xs ++ (ys ++ drop (n - 0) (drop 0 xs)) in
-    let kept : length once ≡ length xs = back-length xs ys n l (omega arith) in
-    ap length (over-lent once n zs end (omega arith)) ∙ over-length once n zs (omega arith) ∙ kept
 
 -- a test whose negation holds fails
 negated : (b : Bool) → not b ≡ true → b ≡ false
@@ -171,6 +164,35 @@ module _ (set : ℕ) (low : set < 13) (p : Parameters) (e : p ≡ setOf set) whe
       → firstPart (setOf set) (keySeed key) ms ++ secondPart (setOf set) (keyNumbers (setOf set) key) ms message ≡ ciphertext (setOf set) key message seed
   unfolding firstPart secondPart secondSums ciphertext sealedNumbers keyPolynomial multiplierVector residueVector
   parts-sealed key message seed ms made = rw (made, e)
+
+  -- and the numbers before packing are c2'
+  pub sums-sealed : (key message seed ns ms : List ℕ) → ns ≡ keyNumbers (setOf set) key → ms ≡ map (residue (p .q)) (multipliersDrawn p seed)
+      → secondSums (setOf set) ns ms message ≡ sealedNumbers (setOf set) key message seed
+  unfolding secondSums sealedNumbers keyPolynomial multiplierVector residueVector
+  sums-sealed key message seed ns ms numbers made = rw (numbers, made, e)
+
+  -- the numbers of a key and the multipliers of a seed written side by side
+  pub loaded : (key seed xs ys zs : List ℕ) (count : ℕ) → count ≡ multiplierCount p → length ys ≡ p .d1 * p .t → length zs ≡ p .d1 * p .t + count - p .d1 * p .t → ys ≡ keyNumbers (setOf set) key → zs ≡ map (residue (p .q)) (multipliersDrawn p seed)
+      → Loaded (setOf set) key seed (take (p .d1 * p .t) (take 0 xs ++ (ys ++ drop (p .d1 * p .t - 0) (drop 0 xs))) ++ (zs ++ drop (p .d1 * p .t + count - p .d1 * p .t) (drop (p .d1 * p .t) (take 0 xs ++ (ys ++ drop (p .d1 * p .t - 0) (drop 0 xs))))))
+  loaded key seed xs ys zs count counted l m numbers multipliers =
+      let n = p .d1 * p .t in
+      let all : List ℕ = take n (take 0 xs ++ (ys ++ drop (n - 0) (drop 0 xs))) ++ (zs ++ drop (n + count - n) (drop n (take 0 xs ++ (ys ++ drop (n - 0) (drop 0 xs))))) in
+      record {
+        numbers = sym (region-part all 0 n n (omega arith) ∙ ap (λ (r : Parameters). region all 0 (r .d1 * r .t)) e) ∙ first-part xs ys zs n (n + count) l m ∙ numbers;
+        multipliers = sym (region-part all n (multiplierCount p) (n + count) (omega (arith, counted)) ∙ ap (λ (r : Parameters). region all (r .d1 * r .t) (multiplierCount r)) e)
+            ∙ second-part xs ys zs n (n + count) l m ∙ multipliers ∙ ap (λ (r : Parameters). map (residue (r .q)) (multipliersDrawn r seed)) e;
+      }
+
+  module _ (key seed work : List ℕ) (held : Loaded (setOf set) key seed work) where
+    -- the part of the numbers of the key
+    pub held-numbers : take (p .d1 * p .t - 0) (drop 0 work) ≡ keyNumbers (setOf set) key
+    held-numbers = region-part work 0 (p .d1 * p .t) (p .d1 * p .t) (omega arith) ∙ ap (λ (r : Parameters). region work 0 (r .d1 * r .t)) e ∙ held .numbers
+
+    -- the part of the multipliers
+    pub held-multipliers : (count : ℕ) → count ≡ multiplierCount p → take (p .d1 * p .t + count - p .d1 * p .t) (drop (p .d1 * p .t) work) ≡ map (residue (p .q)) (multipliersDrawn p seed)
+    held-multipliers count counted =
+        region-part work (p .d1 * p .t) (multiplierCount p) (p .d1 * p .t + count) (omega (arith, counted)) ∙ ap (λ (r : Parameters). region work (r .d1 * r .t) (multiplierCount r)) e
+        ∙ held .multipliers ∙ sym (ap (λ (r : Parameters). map (residue (r .q)) (multipliersDrawn r seed)) e)
 
   -- what the check of the numbers tells
   pub key-answer : (key : List ℕ) (len : ℕ) (r : Bool) → len ≡ p .d1 * p .t → r ≡ allBelow (p .q) (unpack (p .width) len (take (length key - 32) (drop 32 key))) → allBelow (setOf set .q) (keyNumbers (setOf set) key) ≡ r

@@ -1,19 +1,21 @@
 -- The two parts of a ciphertext over the numbers that the code holds (003, section 2.2.1, algorithm 2; worked as algorithm 41), and what these numbers are.
 -- Assumes nothing.
 use mathlib.Core.Path.{_≡_}
-use mathlib.Core.List.{List}
+use mathlib.Core.List.{List, map}
 use Prim.Native.Nat.{ℕ, _+_, _*_, _%_}
 use lib.ListN.{length}
 use Rattle.maths.specs.Vector.{at, tabulate}
-use Rattle.calls.specs.Region.{vector}
+use Rattle.maths.specs.Integer.{residue}
+use Rattle.calls.specs.Region.{region, vector}
 use Rattle.transforms.specs.Ready.{AllBelow}
 use Rattle.sets.specs.declared.Parameters.{Parameters}
 use Rattle.sets.specs.Derived.{halfModulus, multiplierCount}
 use Rattle.packing.specs.Digits.{pack}
 use Rattle.packing.specs.Dropped.{packDropping}
 use Rattle.packing.specs.Message.{messageBits}
+use Rattle.samplers.specs.Seeded.{multipliersDrawn}
 use Rattle.transformed.specs.Stored.{sent, recovered}
-use Rattle.scheme.specs.Encryption.{publicPolynomial, firstNumbers, secondNumbers, firstBytes, secondBytes}
+use Rattle.scheme.specs.Encryption.{publicPolynomial, keyNumbers, firstNumbers, secondNumbers, firstBytes, secondBytes}
 
 -- the multipliers r_1, .., r_t as residues, one after the other
 pub record Multipliers (p : Parameters) (xs : List ℕ) : Type 0 where
@@ -24,6 +26,11 @@ pub record Multipliers (p : Parameters) (xs : List ℕ) : Type 0 where
 pub record KeyResidues (p : Parameters) (xs : List ℕ) : Type 0 where
   pub size : length xs ≡ p .d1 * p .t
   pub residues : AllBelow (p .q) (p .d1 * p .t) xs
+
+-- the work slice holds b̂_1, .., b̂_t of a public key, and after them the multipliers of a seed
+pub record Loaded (p : Parameters) (key seed work : List ℕ) : Type 0 where
+  pub numbers : region work 0 (p .d1 * p .t) ≡ keyNumbers p key
+  pub multipliers : region work (p .d1 * p .t) (multiplierCount p) ≡ map (residue (p .q)) (multipliersDrawn p seed)
 
 -- line 7: ĉ1 packed, from the seed of the public polynomials and the multipliers
 unfoldable pub firstPart : Parameters → List ℕ → List ℕ → List ℕ

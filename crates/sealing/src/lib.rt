@@ -2,7 +2,7 @@
 use calls::Answer;
 use sets::Parameters;
 ghost use mathlib.Core.Path.{_≡_};
-ghost use mathlib.Core.Bool.{not};
+ghost use mathlib.Core.Bool.{true, not};
 ghost use mathlib.Core.List.{_++_};
 ghost use Prim.Native.Nat.{_≤_, _<_};
 ghost use lib.ListN.{length};
@@ -14,7 +14,7 @@ ghost use Rattle.packing.specs.Digits.{unpack};
 ghost use Rattle.samplers.specs.Seeded.{publicDrawn};
 ghost use Rattle.scheme.specs.Answers.{workLength, allTaken, allBelow, sealingDraws};
 ghost use Rattle.scheme.specs.Encryption as scheme;
-ghost use Rattle.sealing.specs.Parts.{Multipliers, KeyResidues, firstPart, secondPart};
+ghost use Rattle.sealing.specs.Parts.{Multipliers, KeyResidues, Loaded, firstPart, secondPart};
 
 mod first;
 mod second;
@@ -63,6 +63,21 @@ fn seal_numbers(
     }
 }
 
+// Holds the numbers of a public key and the multipliers of a seed, one after the other, in the work slice; false where a number of the key is q or more.
+fn load(set: usize, key: &[u8], seed: &[u8], work: &mut [u32]) -> bool
+    requires { ⌜ (1 ≤ set) × (set < 13) × (length (now key) ≡ publicKeyBytes (setOf set)) × (length (now seed) ≡ 32) × (length (now work) ≡ workLength (setOf set)) ⌝ }
+    ensures answer { λ r. ⌜ r ≡ allBelow (setOf set .q) (scheme.keyNumbers (setOf set) (now (key .entry))) ⌝ }
+    ensures held { λ _. ⌜ Loaded (setOf set) (now (key .entry)) (now (seed .entry)) (now (work .exit)) ⌝ }
+{
+    let p = sets::parameters_of(set);
+    let keys = p.d1 * p.t;
+    let end = keys + sets::derived::multiplier_count(p);
+    let bytes = key.len();
+    let below = read_key(p, &key[32..bytes], &mut work[0..keys]);
+    samplers::multipliers_from(p, seed, &mut work[keys..end]);
+    below
+}
+
 // Seals a message for a public key with the multipliers of a seed.
 pub fn seal(
     set: usize,
@@ -79,11 +94,9 @@ pub fn seal(
     let p = sets::parameters_of(set);
     let keys = p.d1 * p.t;
     let end = keys + sets::derived::multiplier_count(p);
-    let bytes = key.len();
-    if !read_key(p, &key[32..bytes], &mut work[0..keys]) {
+    if !load(set, key, seed, work) {
         return Answer::Refused(3, 0);
     }
-    samplers::multipliers_from(p, seed, &mut work[keys..end]);
     seal_numbers(
         set,
         &key[0..32],
@@ -92,4 +105,34 @@ pub fn seal(
         message,
         ciphertext,
     )
+}
+
+// Writes c2 before it is packed, for a public key whose numbers are all below q.
+pub fn numbers_before_packing(
+    set: usize,
+    key: &[u8],
+    message: &[u8],
+    seed: &[u8],
+    out: &mut [u32],
+    work: &mut [u32],
+)
+    requires { ⌜ (1 ≤ set) × (set < 13) × (length (now key) ≡ publicKeyBytes (setOf set)) × (allBelow (setOf set .q) (scheme.keyNumbers (setOf set) (now key)) ≡ true) × (length (now seed) ≡ 32) × (length (now out) ≡ setOf set .d) × (length (now work) ≡ workLength (setOf set)) ⌝ }
+    ensures { λ _. ⌜ now (out .exit) ≡ scheme.sealedNumbers (setOf set) (now (key .entry)) (now (message .entry)) (now (seed .entry)) ⌝ }
+{
+    let p = sets::parameters_of(set);
+    let keys = p.d1 * p.t;
+    let end = keys + sets::derived::multiplier_count(p);
+    load(set, key, seed, work);
+    second::second_numbers(set, &work[0..keys], &work[keys..end], message, out);
+}
+
+// Whether each number of a public key is below q; the work slice is lent for the numbers.
+pub fn key_below(set: usize, key: &[u8], work: &mut [u32]) -> bool
+    requires { ⌜ (1 ≤ set) × (set < 13) × (length (now key) ≡ publicKeyBytes (setOf set)) × (length (now work) ≡ workLength (setOf set)) ⌝ }
+    ensures { λ r. ⌜ r ≡ allBelow (setOf set .q) (scheme.keyNumbers (setOf set) (now (key .entry))) ⌝ }
+{
+    let p = sets::parameters_of(set);
+    let keys = p.d1 * p.t;
+    let bytes = key.len();
+    read_key(p, &key[32..bytes], &mut work[0..keys])
 }

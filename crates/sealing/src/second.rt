@@ -1,17 +1,16 @@
 // The second part of a ciphertext: c2, the sum of the correlations of the multiplier polynomials with the b_i, and half the modulus times the message (003, algorithm 2, lines 8 to 10).
 ghost use mathlib.Core.Path.{_≡_};
 ghost use Prim.Native.Nat.{_+_, _*_, _%_, _^_, _≤_, _<_};
-ghost use lib.ListN.{length, replicate};
+ghost use lib.ListN.{length, take, replicate};
 ghost use Rattle.maths.specs.Vector.{at, tabulate};
 ghost use Rattle.calls.specs.Region.{vector};
 ghost use Rattle.transforms.specs.Ready.{AllBelow};
 ghost use Rattle.sets.specs.Table.{setOf};
 ghost use Rattle.sets.specs.Derived.{transformSize, rootPowers};
 ghost use Rattle.packing.specs.Digits.{Digit};
-ghost use Rattle.packing.specs.Dropped.{packDropping};
 ghost use Rattle.transformed.specs.Stored.{sent, totals};
 ghost use Rattle.scheme.specs.Encryption.{secondBytes};
-ghost use Rattle.sealing.specs.Parts.{Multipliers, KeyResidues, messageAdded, secondPart};
+ghost use Rattle.sealing.specs.Parts.{Multipliers, KeyResidues, messageAdded, secondSums, secondPart};
 
 // Adds up in `total` the products of the multiplier polynomials, sent, and the stored b_i.
 fn sum_stored(
@@ -49,49 +48,71 @@ fn add_bits(numbers: &mut [u32], bits: &[u32], half: u32, q: u32)
     }
 }
 
-// Adds the message to the sums of correlations and packs them; `bits` is lent for the bits of the message.
-fn seal_message(set: usize, message: &[u8], numbers: &mut [u32], bits: &mut [u32], out: &mut [u8])
+// Adds the message to the sums of correlations; `bits` is lent for the bits of the message.
+fn add_message(set: usize, message: &[u8], numbers: &mut [u32], bits: &mut [u32])
     requires { ⌜ (1 ≤ set) × (set < 13) × (length (now numbers) ≡ setOf set .d) × AllBelow (setOf set .q) (setOf set .d) (now numbers) × (length (now bits) ≡ setOf set .d) ⌝ }
-    ensures { λ _. ⌜ now (out .exit) ≡ packDropping (setOf set .width) (setOf set .cmp) (length (now (out .entry))) (messageAdded (setOf set) (now (numbers .entry)) (now (message .entry))) ⌝ }
+    ensures { λ _. ⌜ now (numbers .exit) ≡ messageAdded (setOf set) (now (numbers .entry)) (now (message .entry)) ⌝ }
 {
     let p = sets::parameters_of(set);
     packing::bits_of(message, bits);
     add_bits(numbers, bits, sets::derived::half_modulus(p), p.q);
-    packing::pack_dropping(numbers, p.width, p.cmp, out);
 }
 
-// The second part, with the table of powers and the vectors on the way in lent slices.
-fn second_through(
+// c2 before it is packed, in the first numbers of `total`; the table of powers and the vectors on the way are in lent slices.
+fn sums_through(
     set: usize,
     numbers: &[u32],
     multipliers: &[u32],
     message: &[u8],
-    out: &mut [u8],
     powers: &mut [u32],
     total: &mut [u32],
     x: &mut [u32],
 )
-    requires { ⌜ (1 ≤ set) × (set < 13) × KeyResidues (setOf set) (now numbers) × Multipliers (setOf set) (now multipliers) × (length (now out) ≡ secondBytes (setOf set)) × (length (now powers) ≡ transformSize (setOf set) 1) × (length (now total) ≡ transformSize (setOf set) 1) × (length (now x) ≡ transformSize (setOf set) 1) ⌝ }
-    ensures { λ _. ⌜ now (out .exit) ≡ secondPart (setOf set) (now (numbers .entry)) (now (multipliers .entry)) (now (message .entry)) ⌝ }
+    requires { ⌜ (1 ≤ set) × (set < 13) × KeyResidues (setOf set) (now numbers) × Multipliers (setOf set) (now multipliers) × (length (now powers) ≡ transformSize (setOf set) 1) × (length (now total) ≡ transformSize (setOf set) 1) × (length (now x) ≡ transformSize (setOf set) 1) ⌝ }
+    ensures { λ _. ⌜ take (setOf set .d) (now (total .exit)) ≡ secondSums (setOf set) (now (numbers .entry)) (now (multipliers .entry)) (now (message .entry)) ⌝ }
 {
     let d = sets::parameters_of(set).d;
     roots::load_powers(set, 1, powers);
     calls::clear(total);
     sum_stored(set, numbers, multipliers, powers, total, x);
     transformed::recover_all(set, 1, powers, total);
-    seal_message(set, message, &mut total[0..d], &mut x[0..d], out);
+    add_message(set, message, &mut total[0..d], &mut x[0..d]);
 }
 
-// Writes the second part of a ciphertext.
-pub fn seal_second(set: usize, numbers: &[u32], multipliers: &[u32], message: &[u8], out: &mut [u8])
-    requires { ⌜ (1 ≤ set) × (set < 13) × KeyResidues (setOf set) (now numbers) × Multipliers (setOf set) (now multipliers) × (length (now out) ≡ secondBytes (setOf set)) ⌝ }
-    ensures { λ _. ⌜ now (out .exit) ≡ secondPart (setOf set) (now (numbers .entry)) (now (multipliers .entry)) (now (message .entry)) ⌝ }
+// c2 before it is packed, with room on the way in lent slices.
+fn numbers_through(
+    set: usize,
+    numbers: &[u32],
+    multipliers: &[u32],
+    message: &[u8],
+    out: &mut [u32],
+    powers: &mut [u32],
+    total: &mut [u32],
+    x: &mut [u32],
+)
+    requires { ⌜ (1 ≤ set) × (set < 13) × KeyResidues (setOf set) (now numbers) × Multipliers (setOf set) (now multipliers) × (length (now out) ≡ setOf set .d) × (length (now powers) ≡ transformSize (setOf set) 1) × (length (now total) ≡ transformSize (setOf set) 1) × (length (now x) ≡ transformSize (setOf set) 1) ⌝ }
+    ensures { λ _. ⌜ now (out .exit) ≡ secondSums (setOf set) (now (numbers .entry)) (now (multipliers .entry)) (now (message .entry)) ⌝ }
+{
+    sums_through(set, numbers, multipliers, message, powers, total, x);
+    calls::copy_out(out, total, 0);
+}
+
+// Writes c2 before it is packed.
+pub fn second_numbers(
+    set: usize,
+    numbers: &[u32],
+    multipliers: &[u32],
+    message: &[u8],
+    out: &mut [u32],
+)
+    requires { ⌜ (1 ≤ set) × (set < 13) × KeyResidues (setOf set) (now numbers) × Multipliers (setOf set) (now multipliers) × (length (now out) ≡ setOf set .d) ⌝ }
+    ensures { λ _. ⌜ now (out .exit) ≡ secondSums (setOf set) (now (numbers .entry)) (now (multipliers .entry)) (now (message .entry)) ⌝ }
 {
     let size = transformed::size_of(set, 1);
     let mut powers = [0u32; 3328];
     let mut total = [0u32; 3328];
     let mut x = [0u32; 3328];
-    second_through(
+    numbers_through(
         set,
         numbers,
         multipliers,
@@ -101,4 +122,31 @@ pub fn seal_second(set: usize, numbers: &[u32], multipliers: &[u32], message: &[
         &mut total[0..size],
         &mut x[0..size],
     );
+}
+
+// The second part, with c2 before it is packed in a lent slice.
+fn second_through(
+    set: usize,
+    numbers: &[u32],
+    multipliers: &[u32],
+    message: &[u8],
+    out: &mut [u8],
+    sums: &mut [u32],
+)
+    requires { ⌜ (1 ≤ set) × (set < 13) × KeyResidues (setOf set) (now numbers) × Multipliers (setOf set) (now multipliers) × (length (now out) ≡ secondBytes (setOf set)) × (length (now sums) ≡ setOf set .d) ⌝ }
+    ensures { λ _. ⌜ now (out .exit) ≡ secondPart (setOf set) (now (numbers .entry)) (now (multipliers .entry)) (now (message .entry)) ⌝ }
+{
+    let p = sets::parameters_of(set);
+    second_numbers(set, numbers, multipliers, message, sums);
+    packing::pack_dropping(sums, p.width, p.cmp, out);
+}
+
+// Writes the second part of a ciphertext.
+pub fn seal_second(set: usize, numbers: &[u32], multipliers: &[u32], message: &[u8], out: &mut [u8])
+    requires { ⌜ (1 ≤ set) × (set < 13) × KeyResidues (setOf set) (now numbers) × Multipliers (setOf set) (now multipliers) × (length (now out) ≡ secondBytes (setOf set)) ⌝ }
+    ensures { λ _. ⌜ now (out .exit) ≡ secondPart (setOf set) (now (numbers .entry)) (now (multipliers .entry)) (now (message .entry)) ⌝ }
+{
+    let d = sets::parameters_of(set).d;
+    let mut sums = [0u32; 256];
+    second_through(set, numbers, multipliers, message, out, &mut sums[0..d]);
 }

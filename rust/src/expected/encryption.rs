@@ -1,8 +1,7 @@
 //! What run_encryption prints.
 
-use super::report::{answer, byte_sum, hex, number_sum, pattern};
-use crate::draws::{refusal, Refusal};
-use crate::parameters::{set, Set};
+use super::calls::{checked, work_sum};
+use super::report::{answer, byte_sum, hex, pattern};
 use crate::scheme::{decrypt, encrypt, key};
 
 /// Set, bytes of a public key and of a ciphertext, numbers of the work slice.
@@ -19,27 +18,6 @@ const SETS: [[usize; 4]; 10] = [
     [13, 26912, 8320, 25080],
 ];
 
-const WORK: usize = 25081;
-
-/// The checks of a call: the set, then whether a length was changed.
-fn checked(number: usize, change: usize) -> Result<Set, Refusal> {
-    match number {
-        1..=6 if change == 0 => Ok(set(number).unwrap()),
-        1..=6 => refusal(2, 0),
-        7..=12 => refusal(8, 0),
-        _ => refusal(1, 0),
-    }
-}
-
-/// The work slice after a call: cleared where the checks of the set and the lengths passed.
-fn work(passed: bool, length: usize) -> u64 {
-    let mut numbers = vec![7; WORK];
-    if passed {
-        numbers[..length].fill(0);
-    }
-    number_sum(&numbers)
-}
-
 /// One set with one choice of seeds.
 struct Case {
     row: [usize; 4],
@@ -54,7 +32,7 @@ struct Case {
 impl Case {
     fn key(&mut self, change: usize) -> String {
         let [number, public_bytes, _, numbers] = self.row;
-        let passed = checked(number, change);
+        let passed = checked(1..=6, number, change);
         let made = passed.and_then(|s| key(&s, &self.seed[..32]));
         (self.public, self.secret) = (pattern(26913, 1), pattern(33, 2));
         if let Ok((public, secret)) = &made {
@@ -62,30 +40,30 @@ impl Case {
             self.secret[..32].copy_from_slice(secret);
         }
         let line = format!("key {number} {change} {}", answer(&made));
-        format!("{line} {} {} {}\n", byte_sum(&self.public), hex(&self.secret), work(passed.is_ok(), numbers))
+        format!("{line} {} {} {}\n", byte_sum(&self.public), hex(&self.secret), work_sum(passed.is_ok(), numbers))
     }
 
     fn encrypt(&mut self, change: usize) -> String {
         let [number, public_bytes, sealed_bytes, numbers] = self.row;
-        let passed = checked(number, change);
+        let passed = checked(1..=6, number, change);
         let made = passed.and_then(|s| encrypt(&s, &self.public[..public_bytes], &self.message[..32], &self.other[..32]));
         self.sealed = pattern(8321, 3);
         if let Ok(sealed) = &made {
             self.sealed[..sealed_bytes].copy_from_slice(sealed);
         }
         let line = format!("encrypt {number} {change} {}", answer(&made));
-        format!("{line} {} {}\n", byte_sum(&self.sealed), work(passed.is_ok(), numbers))
+        format!("{line} {} {}\n", byte_sum(&self.sealed), work_sum(passed.is_ok(), numbers))
     }
 
     fn decrypt(&self, change: usize) -> String {
         let [number, _, sealed_bytes, numbers] = self.row;
-        let passed = checked(number, change);
+        let passed = checked(1..=6, number, change);
         let made = passed.and_then(|s| decrypt(&s, &self.secret[..32], &self.sealed[..sealed_bytes]));
         let mut read = pattern(33, 4);
         if let Ok(message) = &made {
             read[..32].copy_from_slice(message);
         }
-        format!("decrypt {number} {change} {} {} {}\n", answer(&made), hex(&read), work(passed.is_ok(), numbers))
+        format!("decrypt {number} {change} {} {} {}\n", answer(&made), hex(&read), work_sum(passed.is_ok(), numbers))
     }
 
     fn flipped(&mut self, place: usize) -> String {

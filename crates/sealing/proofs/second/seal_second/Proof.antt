@@ -1,29 +1,24 @@
--- The arrays have room for the first transform of every set.
+-- The array has room for the d numbers of every set.
 -- Assumes nothing.
-use mathlib.Core.Path.{_∙_}
+use mathlib.Core.Path.{ap, _∙_}
 use native.Mathlib.Omega.{arith}
-use Rattle.sets.proofs.Transforms.{size-most}
+use Rattle.sets.specs.declared.Parameters.{Parameters}
 use Rattle.samplers.proofs.Part.{part-length}
+use Rattle.sealing.proofs.Multiplied.{rules-of}
 use borrow.Author.Needs.{needs}
 use Rattle.sealing.proofs.second.seal_second.Statement.{statement}
 use Rattle.sealing.proofs.second.seal_second.Tie as tie
 
-part-powers-end : tie.Need-part-powers-end
-part-powers-end c = omega (arith, c .before .size-of .ensures, size-most (c .before .before .before .before .before .before .args .set) (c .before .before .before .before .before .before .pre .1) 1)
-
-part-total-end : tie.Need-part-total-end
-part-total-end c = omega (arith, c .before .before .size-of .ensures, size-most (c .before .before .before .before .before .before .before .args .set) (c .before .before .before .before .before .before .before .pre .1) 1)
-
-part-x-end : tie.Need-part-x-end
-part-x-end c = omega (arith, c .before .before .before .size-of .ensures, size-most (c .before .before .before .before .before .before .before .before .args .set) (c .before .before .before .before .before .before .before .before .pre .1) 1)
+part-sums-end : tie.Need-part-sums-end
+part-sums-end c = omega (arith, rules-of (c .before .before .before .before .before .before .args .set) (c .before .before .before .before .before .before .pre .1) _ (c .before .parameters-of .ensures) .most-d)
 
 second-through-requires : tie.Need-second-through-requires
 second-through-requires c κs =
-    let start = c .before .before .before .before .before .before .before .before .before in
+    let start = c .before .before .before .before .before .before .before in
     let pre = start .pre in
-    let size = c .before .before .before .before .size-of in
-    let long = part-length 3328 (size .result) (omega (arith, size .ensures, size-most (start .args .set) (pre .1) 1)) ∙ size .ensures in
-    (pre .0, pre .1, pre .2, pre .3, pre .4, long, long, long)
+    let e = c .before .before .parameters-of .ensures in
+    let long = part-length 256 (c .before .before .parameters-of .result .d) (rules-of (start .args .set) (pre .1) _ e .most-d) ∙ ap (λ (r : Parameters). r .d) e in
+    (pre .0, pre .1, pre .2, pre .3, pre .4, long)
 
 pub seal-second-spec : {M : Type 1} → statement M
 seal-second-spec =
@@ -32,13 +27,7 @@ seal-second-spec =
     (λ c κs. search needs)
     (λ c. search needs)
     (λ c. search needs)
-    part-powers-end
-    (λ c. search needs)
-    (λ c. search needs)
-    part-total-end
-    (λ c. search needs)
-    (λ c. search needs)
-    part-x-end
+    part-sums-end
     second-through-requires
     (λ c. search needs)
     (λ c. search needs))

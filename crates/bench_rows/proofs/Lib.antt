@@ -1,0 +1,4 @@
+pub mod ByteLaws
+pub mod Numbers
+pub mod NoiseLaws
+pub mod Rows

@@ -1,0 +1,43 @@
+-- `bench_rows::steps::take_steps_through` meets its contract: the numbers of an input in range are those that the steps take.
+-- Assumes nothing.
+use mathlib.Core.Path.{_∙_}
+use Rattle.bench_rows.proofs.Numbers.{bench-inputs, bench-small}
+use Rattle.bench_rows.proofs.Rows.{noise-from, read-from}
+use borrow.Author.Needs.{needs}
+use Rattle.bench_rows.proofs.steps.take_steps_through.Statement.{statement}
+use Rattle.bench_rows.proofs.steps.take_steps_through.Tie as tie
+
+fill-noise-requires : tie.Need-fill-noise-requires
+fill-noise-requires c κs =
+    let start = c .before .before .before .before .before .before .before .before .before .before .before .before .before .before .before .before .before .before .before in
+    let parts = c .before .before .before .before .before .before .before .before .before .copy-parts .ensures in
+    let given = start .pre .0 in
+    (rw (parts .2, parts .3) (bench-small (start .args .input .now) (given .size) (given .in-range)), start .pre .5)
+
+read-bits-requires : tie.Need-read-bits-requires
+read-bits-requires c κs =
+    let start = c .before .before .before .before .before .before .before .before .before .before .before .before .before .before .before .before .before .before .before .before .before .before .before .before .before .before in
+    let parts = c .before .before .before .before .before .before .before .before .before .before .before .before .before .before .before .before .copy-parts .ensures in
+    let given = start .pre .0 in
+    (rw (parts .0, parts .1, parts .2, parts .3, given .sent) (bench-inputs (start .args .input .now) (given .size) (given .in-range)), start .pre .6)
+
+returns : tie.Need-returns
+returns c =
+    let start = c .before .before .before .before .before .before .before .before .before .before .before .before .before .before .before .before .before .before .before .before .before .before .before .before .before .before .before .before .before in
+    let parts = c .before .before .before .before .before .before .before .before .before .before .before .before .before .before .before .before .before .before .before .copy-parts .ensures in
+    (c .before .before .before .before .before .before .before .before .before .fill-noise .ensures ∙ noise-from (start .args .input .now) (parts .2) (parts .3), c .before .before .read-bits .ensures ∙ read-from (start .args .input .now) (parts .0) (parts .1) (parts .2) (parts .3) (start .pre .0 .sent))
+
+pub take-steps-through-spec : {M : Type 1} → statement M
+take-steps-through-spec =
+    tie.close
+    (tie.spec
+    (λ c κs. search needs)
+    fill-noise-requires
+    read-bits-requires
+    (λ c. search needs)
+    (λ c. search needs)
+    (λ c. search needs)
+    (λ c. search needs)
+    (λ c. search needs)
+    (λ c. search needs)
+    returns)

@@ -1,0 +1,4 @@
+pub mod Words
+pub mod Sums
+pub mod Held
+pub mod Drawn

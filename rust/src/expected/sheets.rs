@@ -1,0 +1,68 @@
+//! What run_sheet and noisesheet read and print.
+
+use super::report::pattern;
+use crate::arithmetic::{bit, middle_product};
+use crate::parameters::set;
+use crate::sheet::sheet;
+
+/// 01's Bench input.
+pub const BENCH: [u8; 14] = [0, 3, 5, 1, 2, 3, 4, 1, 0, 255, 1, 254, 1, 0];
+
+/// The inputs of the known sheets of an independent model.
+fn known_inputs() -> Vec<Vec<u8>> {
+    let hex = include_str!("../../vectors/sheets.txt").lines().filter(|line| line.len() == 194);
+    hex.map(|line| (0..97).map(|i| u8::from_str_radix(&line[2 * i..2 * i + 2], 16).unwrap()).collect()).collect()
+}
+
+/// 01's Bench input with one byte changed.
+fn changed(place: usize, byte: u8) -> Vec<u8> {
+    let mut input = BENCH.to_vec();
+    input[place] = byte;
+    input
+}
+
+/// Inputs of set 0: 01's, every byte out of range, its neighbours within range, and lengths one off.
+fn bench_inputs() -> Vec<Vec<u8>> {
+    let mut inputs = vec![BENCH.to_vec(), BENCH[..13].to_vec(), [&BENCH[..], &[0]].concat()];
+    inputs.extend((1..7).flat_map(|place| [changed(place, 16), changed(place, 17)]));
+    inputs.extend((7..10).flat_map(|place| [1, 255, 2, 254, 128].map(|byte| changed(place, byte))));
+    inputs.extend((10..12).flat_map(|place| [2, 254, 0, 3, 253, 128].map(|byte| changed(place, byte))));
+    inputs.extend((12..14).flat_map(|place| [1, 2].map(|byte| changed(place, byte))));
+    inputs
+}
+
+/// Inputs of a set above 0, whole, one byte short and one byte long.
+fn seeded_inputs(number: u8) -> Vec<Vec<u8>> {
+    let mut input = pattern(98, 3 * number as usize);
+    input[0] = number;
+    vec![input[..97].to_vec(), input[..96].to_vec(), input]
+}
+
+fn inputs() -> Vec<Vec<u8>> {
+    let mut inputs = vec![vec![], vec![0], vec![7], vec![255]];
+    inputs.extend(bench_inputs());
+    inputs.extend(known_inputs());
+    inputs.extend((1..8).flat_map(seeded_inputs));
+    inputs
+}
+
+/// The inputs one after the other, each after a byte that tells its length.
+pub fn input() -> Vec<u8> {
+    inputs().iter().flat_map(|input| [vec![input.len() as u8], input.clone()].concat()).collect()
+}
+
+/// A sealing of two bits 0 with a made key, whose places have this noise modulo 17.
+fn made(noise: u32) -> String {
+    let (s, a, secret, b, r) = (set(0).unwrap(), [3, 5], [1, 2, 3, 4], [11, (2 + noise) % 17, 10], [1, 1]);
+    let c1 = middle_product(s.q, &r, &[0, a[0], a[1], 0], 3);
+    let c2 = middle_product(s.q, &r, &b, 2);
+    let opened = middle_product(s.q, &c1, &secret, 2);
+    let bits: Vec<u32> = c2.iter().zip(&opened).map(|(&c, &x)| bit(&s, (c + 17 - x) % 17)).collect();
+    let numbers: Vec<String> = [c1, c2, bits].concat().iter().map(u32::to_string).collect();
+    format!("made {noise} done done {}\n", numbers.join(" "))
+}
+
+pub fn text() -> String {
+    let sheets: String = inputs().iter().map(|input| sheet(input)).collect();
+    sheets + &[3, 14, 4, 13, 12, 6, 11, 11, 12].map(made).concat()
+}
