@@ -1,6 +1,8 @@
 //! The proved functions beside the Rust comparison: microseconds of both and their ratio, each the least of several runs in turn.
 
 mod proved;
+mod scheme;
+mod stack;
 
 use comparison::arithmetic::Transform;
 use comparison::parameters::set;
@@ -76,6 +78,7 @@ fn products(number: usize) {
 }
 
 fn main() {
+    scheme::table();
     println!("{:40} {:>10} {:>10} {:>6}", "", "proved", "Rust", "ratio");
     bytes();
     (1..13).for_each(transforms);

@@ -1,2 +1,3 @@
+pub mod Barrett
 pub mod Laws
 pub mod Signed

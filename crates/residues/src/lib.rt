@@ -1,6 +1,6 @@
 // Arithmetic modulo any q below 2^24: the one place where a number is reduced.
 ghost use mathlib.Core.Path.{_≡_};
-ghost use Prim.Native.Nat.{_+_, _-_, _*_, _%_, _^_, _<_};
+ghost use Prim.Native.Nat.{_+_, _-_, _*_, _/_, _%_, _^_, _≤_, _<_};
 ghost use lib.IntN.{natAbs};
 ghost use Rattle.maths.specs.Integer.{residue};
 
@@ -21,12 +21,86 @@ pub fn subtract(a: u32, b: u32, q: u32) -> u32
     if a >= b { a - b } else { a + (q - b) }
 }
 
-// The remainder of a number of 64 bits.
-pub fn reduce(x: u64, q: u32) -> u32
+// The reciprocal of q, scaled by 2^48: a division of public numbers alone.
+fn reciprocal(q: u32) -> u64
+    requires { ⌜ 0 < q ⌝ }
+    ensures { λ r. ⌜ r ≡ 2 ^ 48 / q ⌝ }
+{
+    281474976710656 / (q as u64)
+}
+
+// The quotient of x by q, or up to 2 less; the divisions by 2^16 and 2^32 are shifts.
+fn quotient_estimate(x: u64, q: u32) -> u64
+    requires { ⌜ (x < 2 ^ 48) × (2 ^ 16 ≤ q) ⌝ }
+    ensures { λ r. ⌜ (r * q ≤ x) × (x < (r + 3) * q) ⌝ }
+{
+    x / 65536 * reciprocal(q) / 4294967296
+}
+
+// x less a multiple of q.
+fn partial_remainder(x: u64, q: u32) -> u32
+    requires { ⌜ (x < 2 ^ 48) × (2 ^ 16 ≤ q) × (q < 2 ^ 23) ⌝ }
+    ensures { λ r. ⌜ (r % q ≡ x % q) × (r < 3 * q) ⌝ }
+{
+    (x - quotient_estimate(x, q) * (q as u64)) as u32
+}
+
+// The exact quotient of an x below 3 · q. In its place, subtractions of q after comparisons would become jumps in some loops, whose time tells x.
+fn small_quotient(x: u32, q: u32) -> u32
+    requires { ⌜ (x < 3 * q) × (2 ^ 16 ≤ q) × (q < 2 ^ 23) ⌝ }
+    ensures { λ r. ⌜ r ≡ x / q ⌝ }
+{
+    ((x as u64) * (reciprocal(q) + 1) / 281474976710656) as u32
+}
+
+// The remainder of a number below 2^48, in a time that depends on q alone.
+fn short_remainder(x: u64, q: u32) -> u32
+    requires { ⌜ (x < 2 ^ 48) × (2 ^ 16 ≤ q) × (q < 2 ^ 23) ⌝ }
+    ensures { λ r. ⌜ r ≡ x % q ⌝ }
+{
+    let partial = partial_remainder(x, q);
+    partial - small_quotient(partial, q) * q
+}
+
+// The remainder of any number of 64 bits, in a time that depends on q alone: its upper 41 bits are replaced by less than 2^25.
+fn long_remainder(x: u64, q: u32) -> u32
+    requires { ⌜ (2 ^ 16 ≤ q) × (q < 2 ^ 23) ⌝ }
+    ensures { λ r. ⌜ r ≡ x % q ⌝ }
+{
+    let upper = partial_remainder(x / 8388608, q) as u64;
+    short_remainder(upper * 8388608 + x % 8388608, q)
+}
+
+// The remainder by a division, whose time may depend on x: for set 0 and for any q that is no set's.
+fn divided_remainder(x: u64, q: u32) -> u32
     requires { ⌜ 0 < q ⌝ }
     ensures { λ r. ⌜ r ≡ x % q ⌝ }
 {
     (x % (q as u64)) as u32
+}
+
+// The remainder of a number of 64 bits. The q of sets 1 to 12 are between 2^16 and 2^23: there the time depends on q alone, which is public.
+pub fn reduce(x: u64, q: u32) -> u32
+    requires { ⌜ 0 < q ⌝ }
+    ensures { λ r. ⌜ r ≡ x % q ⌝ }
+{
+    if 65536 <= q && q < 8388608 {
+        long_remainder(x, q)
+    } else {
+        divided_remainder(x, q)
+    }
+}
+
+// The same for a number below 2^48, as a product of two residues is, in fewer steps.
+fn reduce_product(x: u64, q: u32) -> u32
+    requires { ⌜ (x < 2 ^ 48) × (0 < q) ⌝ }
+    ensures { λ r. ⌜ r ≡ x % q ⌝ }
+{
+    if 65536 <= q && q < 8388608 {
+        short_remainder(x, q)
+    } else {
+        divided_remainder(x, q)
+    }
 }
 
 // The whole product of two numbers of 32 bits, for sums that are reduced once.
@@ -41,26 +115,31 @@ pub fn multiply(a: u32, b: u32, q: u32) -> u32
     requires { ⌜ (a < q) × (b < q) × (q < 2 ^ 24) ⌝ }
     ensures { λ r. ⌜ r ≡ a * b % q ⌝ }
 {
-    reduce(product(a, b), q)
+    reduce_product(product(a, b), q)
 }
 
-// The residue of −n.
-fn of_negated(n: u32, q: u32) -> u32
-    requires { ⌜ 0 < q ⌝ }
-    ensures { λ r. ⌜ r ≡ (q - n % q) % q ⌝ }
+// The size of a number with a sign.
+fn size_of(z: i32) -> u32
+    requires { ⌜ natAbs z < 2 ^ 24 ⌝ }
+    ensures { λ r. ⌜ r ≡ natAbs z ⌝ }
 {
-    let size = n % q;
+    if z < 0 { (0 - z) as u32 } else { z as u32 }
+}
+
+// The residue of −size, for a size below q.
+fn of_negated(size: u32, q: u32) -> u32
+    requires { ⌜ size < q ⌝ }
+    ensures { λ r. ⌜ r ≡ (q - size) % q ⌝ }
+{
     if size == 0 { 0 } else { q - size }
 }
 
-// The residue of a whole number with a sign.
+// The residue of a whole number with a sign: that of its size and the opposite one are both worked out, and one is chosen.
 pub fn of_signed(z: i32, q: u32) -> u32
     requires { ⌜ (0 < q) × (q < 2 ^ 24) × (natAbs z < 2 ^ 24) ⌝ }
     ensures { λ r. ⌜ r ≡ residue q z ⌝ }
 {
-    if z < 0 {
-        of_negated((0 - z) as u32, q)
-    } else {
-        (z as u32) % q
-    }
+    let size = reduce_product(size_of(z) as u64, q);
+    let negated = of_negated(size, q);
+    if z < 0 { negated } else { size }
 }

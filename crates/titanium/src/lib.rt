@@ -8,6 +8,7 @@ mod bytes;
 mod encryption_scheme;
 mod key_exchange;
 mod lengths;
+mod noise_sheet;
 mod on_numbers;
 
 // An answer in one number.

@@ -1,6 +1,6 @@
 //! What run_sheet and noisesheet read and print.
 
-use super::report::pattern;
+use super::report::{number_sum, pattern};
 use crate::arithmetic::{bit, middle_product};
 use crate::parameters::set;
 use crate::sheet::sheet;
@@ -58,8 +58,7 @@ fn made(noise: u32) -> String {
     let c2 = middle_product(s.q, &r, &b, 2);
     let opened = middle_product(s.q, &c1, &secret, 2);
     let bits: Vec<u32> = c2.iter().zip(&opened).map(|(&c, &x)| bit(&s, (c + 17 - x) % 17)).collect();
-    let numbers: Vec<String> = [c1, c2, bits].concat().iter().map(u32::to_string).collect();
-    format!("made {noise} done done {}\n", numbers.join(" "))
+    format!("made {noise} done done {} {} {} {}\n", number_sum(&c1), number_sum(&c2), bits[0], bits[1])
 }
 
 pub fn text() -> String {

@@ -1,0 +1,2 @@
+pub mod SeededLaws
+pub mod SheetLaws

@@ -1,0 +1,36 @@
+-- Ceiling and half modulus are those of the set.
+-- Assumes nothing.
+use mathlib.Core.Path.{ap, ap₂, _∙_}
+use Prim.Native.Nat.{ℕ}
+use Rattle.sets.specs.Derived.{halfModulus}
+use Rattle.sealing.proofs.Multiplied.{rules-of}
+use Rattle.sheet_text.specs.Text.{sheetText}
+use Rattle.sheet.specs.Sheet.{ceiling}
+use Rattle.sheet.proofs.SheetLaws.{printed-as}
+use borrow.Author.Needs.{needs}
+use Rattle.sheet.proofs.text.write_accepted.Statement.{statement}
+use Rattle.sheet.proofs.text.write_accepted.Tie as tie
+
+ceiling-requires : tie.Need-ceiling-requires
+ceiling-requires c κs = rules-of (c .before .before .before .before .args .set) (c .before .before .before .before .pre .0) _ (c .parameters-of .ensures)
+
+half-requires : tie.Need-half-requires
+half-requires c κs = rules-of (c .before .before .before .before .before .args .set) (c .before .before .before .before .before .pre .0) _ (c .before .parameters-of .ensures)
+
+returns : tie.Need-returns
+returns c =
+    let args = c .before .before .before .before .before .before .before .before .before .before .args in
+    let e = c .before .before .before .before .before .before .parameters-of .ensures in
+    let made = c .before .before .write-sheet .ensures in
+    printed-as (ap₂ (λ (most half : ℕ). sheetText (args .noise .now) (args .sent .now) (args .read .now) most half) (c .before .before .before .before .before .ceiling .ensures ∙ ap ceiling e) (c .before .before .before .before .half .ensures ∙ ap halfModulus e)) (record { count-is = made .0; short = made .1 .1; text-is = made .1 .0 })
+
+pub write-accepted-spec : {M : Type 1} → statement M
+write-accepted-spec =
+    tie.close
+    (tie.spec
+    (λ c κs. search needs)
+    ceiling-requires
+    half-requires
+    (λ c κs. search needs)
+    (λ c. search needs)
+    returns)

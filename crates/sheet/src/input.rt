@@ -1,0 +1,42 @@
+// The checks of an input: its set byte and its length.
+use calls::Answer;
+ghost use mathlib.Core.Path.{_≡_};
+ghost use Prim.Native.Nat.{_≤_};
+ghost use lib.ListN.{length};
+ghost use Rattle.calls.specs.Outcome.{outcome, accepted};
+ghost use Rattle.sheet.specs.Sheet.{setByte, inputBytes, inputAnswer};
+
+// The set byte.
+pub fn set_byte(input: &[u8]) -> usize
+    requires { ⌜ 1 ≤ length (now input) ⌝ }
+    ensures { λ r. ⌜ r ≡ setByte (now (input .entry)) ⌝ }
+{
+    input[0] as usize
+}
+
+// How many bytes an input of a set has.
+fn input_bytes(set: usize) -> usize
+    ensures { λ r. ⌜ r ≡ inputBytes set ⌝ }
+{
+    if set == 0 {
+        return 14;
+    }
+    97
+}
+
+// Refused with 2 when the input is empty, with 1 when the set is not 0 to 6, with 2 when the length is not the set's.
+pub fn checked(input: &[u8]) -> Answer
+    ensures { λ r. ⌜ outcome r ≡ inputAnswer (now (input .entry)) accepted ⌝ }
+{
+    if input.len() < 1 {
+        return Answer::Refused(2, 0);
+    }
+    let set = set_byte(input);
+    if 6 < set {
+        return Answer::Refused(1, 0);
+    }
+    if input.len() != input_bytes(set) {
+        return Answer::Refused(2, 0);
+    }
+    Answer::Done
+}

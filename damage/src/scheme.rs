@@ -1,0 +1,118 @@
+//! The encryption scheme and the key exchange.
+
+use crate::lent::{same_answer, Lent};
+use crate::random::Random;
+use comparison::draws::{refusal, Refusal};
+use comparison::parameters::{set, Set};
+use comparison::scheme as other;
+use std::ops::RangeInclusive;
+use titanium::{ciphertext_bytes, public_key_bytes, secret_key_bytes, work_numbers};
+
+/// The set, where it is one of the scheme's own and every length is right.
+fn checked(own: RangeInclusive<usize>, number: usize, lengths: &[(usize, usize)]) -> Result<Set, Refusal> {
+    match set(number) {
+        Some(s) if own.contains(&number) && lengths.iter().all(|(given, right)| given == right) => Ok(s),
+        Some(_) if own.contains(&number) => refusal(2, 0),
+        Some(_) if number > 0 => refusal(8, 0),
+        _ => refusal(1, 0),
+    }
+}
+
+/// The lengths of a set that exists.
+fn lengths(number: usize) -> [usize; 4] {
+    let number = number.clamp(1, 12);
+    [public_key_bytes(number), secret_key_bytes(number), ciphertext_bytes(number), work_numbers(number)]
+}
+
+/// The work slice must be all zero once the checks of set and lengths passed.
+fn expect_work(work: &Lent<u32>, length: usize, checked: &Result<Set, Refusal>) {
+    work.expect(checked.as_ref().map(|_| vec![0; length]).as_ref().map(|zeros| zeros.as_slice()));
+}
+
+/// Seldom changes a bit, or puts three bytes of ones, a number above every modulus.
+fn damage(random: &mut Random, bytes: &mut [u8]) {
+    if bytes.len() < 40 || !random.one_in(3) {
+        return;
+    }
+    let place = random.below(bytes.len() - 3);
+    if random.one_in(2) {
+        bytes[place] ^= 1 << random.below(8);
+    } else {
+        bytes[place..place + 3].fill(255);
+    }
+}
+
+fn key(random: &mut Random, number: usize, own: RangeInclusive<usize>) -> (u8, Vec<u8>, Vec<u8>) {
+    let right = lengths(number);
+    let seed_length = random.length(32);
+    let seed = random.bytes(seed_length);
+    let [pk, sk, w] = [right[0], right[1], right[3]].map(|right| random.length(right));
+    let (mut public, mut secret, mut work) = (Lent::new(pk, 7), Lent::new(sk, 7), Lent::new(w, 7));
+    let exchange = own.contains(&12);
+    let call = if exchange { titanium::keypair } else { titanium::encryption_keypair };
+    let given = call(number, &seed, public.slice(), secret.slice(), work.slice());
+    let passed = checked(own, number, &[(seed.len(), 32), (pk, right[0]), (sk, right[1]), (w, right[3])]);
+    let made = passed.as_ref().map_err(|&r| r).and_then(|s| if exchange { other::exchange_key(s, &seed) } else { other::key(s, &seed) });
+    public.expect(made.as_ref().map(|keys| keys.0.as_slice()));
+    secret.expect(made.as_ref().map(|keys| keys.1.as_slice()));
+    expect_work(&work, w, &passed);
+    let answer = same_answer(given, &made);
+    let (public, secret) = made.unwrap_or_else(|_| (random.bytes(right[0]), random.bytes(right[1])));
+    (answer, public, secret)
+}
+
+fn encrypt(random: &mut Random, number: usize, public: &[u8]) -> (u8, Vec<u8>) {
+    let right = lengths(number);
+    let (message_length, seed_length) = (random.length(32), random.length(32));
+    let (message, seed) = (random.bytes(message_length), random.bytes(seed_length));
+    let [ct, w] = [right[2], right[3]].map(|right| random.length(right));
+    let (mut sealed, mut work) = (Lent::new(ct, 7), Lent::new(w, 7));
+    let given = titanium::encrypt(number, public, &message, &seed, sealed.slice(), work.slice());
+    let passed = checked(1..=6, number, &[(public.len(), right[0]), (message.len(), 32), (seed.len(), 32), (ct, right[2]), (w, right[3])]);
+    let made = passed.as_ref().map_err(|&r| r).and_then(|s| other::encrypt(s, public, &message, &seed));
+    sealed.expect(made.as_ref().map(|bytes| bytes.as_slice()));
+    expect_work(&work, w, &passed);
+    (same_answer(given, &made), made.unwrap_or_else(|_| random.bytes(right[2])))
+}
+
+fn encapsulate(random: &mut Random, number: usize, public: &[u8]) -> (u8, Vec<u8>) {
+    let right = lengths(number);
+    let message_length = random.length(32);
+    let message = random.bytes(message_length);
+    let [ct, ss, w] = [right[2], 32, right[3]].map(|right| random.length(right));
+    let (mut sealed, mut shared, mut work) = (Lent::new(ct, 7), Lent::new(ss, 7), Lent::new(w, 7));
+    let given = titanium::encapsulate(number, public, &message, sealed.slice(), shared.slice(), work.slice());
+    let passed = checked(7..=12, number, &[(public.len(), right[0]), (message.len(), 32), (ct, right[2]), (ss, 32), (w, right[3])]);
+    let made = passed.as_ref().map_err(|&r| r).and_then(|s| other::encapsulate(s, public, &message));
+    sealed.expect(made.as_ref().map(|pair| pair.0.as_slice()));
+    shared.expect(made.as_ref().map(|pair| pair.1.as_slice()));
+    expect_work(&work, w, &passed);
+    (same_answer(given, &made), made.map_or_else(|_| random.bytes(right[2]), |pair| pair.0))
+}
+
+fn open(random: &mut Random, number: usize, own: RangeInclusive<usize>, secret: &[u8], sealed: &[u8]) -> u8 {
+    let right = lengths(number);
+    let [out, w] = [32, right[3]].map(|right| random.length(right));
+    let (mut given_bytes, mut work) = (Lent::new(out, 7), Lent::new(w, 7));
+    let exchange = own.contains(&12);
+    let call = if exchange { titanium::decapsulate } else { titanium::decrypt };
+    let given = call(number, secret, sealed, given_bytes.slice(), work.slice());
+    let passed = checked(own, number, &[(secret.len(), right[1]), (sealed.len(), right[2]), (out, 32), (w, right[3])]);
+    let model = if exchange { other::decapsulate } else { other::decrypt };
+    let made = passed.as_ref().map_err(|&r| r).and_then(|s| model(s, secret, sealed));
+    given_bytes.expect(made.as_ref().map(|bytes| bytes.as_slice()));
+    expect_work(&work, w, &passed);
+    same_answer(given, &made)
+}
+
+/// Key, sealing and reading of one scheme, each with what the call before made, seldom damaged.
+pub fn round(random: &mut Random) -> Vec<u8> {
+    let number = random.set();
+    let own = if random.one_in(8) == (number > 6) { 1..=6 } else { 7..=12 };
+    let (first, mut public, mut secret) = key(random, number, own.clone());
+    damage(random, &mut public);
+    let (second, mut sealed) = if own.contains(&12) { encapsulate(random, number, &public) } else { encrypt(random, number, &public) };
+    damage(random, &mut sealed);
+    damage(random, &mut secret);
+    vec![first, second, open(random, number, own, &secret, &sealed)]
+}

@@ -1,0 +1,134 @@
+/*
+ * Titanium 1.1: encryption scheme, key exchange and the calls below them, as proved functions.
+ *
+ * Link target/staticlib/libtitanium.a (`rt staticlib titanium`; x86-64).
+ *
+ * Slices. A slice is a pointer and a length; lengths count elements, not bytes. A pointer must be valid for its length, aligned for its
+ * element type, and not null where the length is not 0. No slice that a call writes may overlap another slice of the same call. Under these
+ * conditions, which C cannot check, every call is proved to read and write nothing outside its slices and to end.
+ *
+ * Sets. 0 is Bench (the calls on numbers and the noise sheet only); 1 to 6 are Titanium-CPA Toy64, Lite96, Std128, Med160, Hi192, Super256, the
+ * encryption scheme; 7 to 12 are Titanium-CCA in that order, the key exchange.
+ *
+ *   set                 1      2      3      4      5      6      7      8      9     10     11     12
+ *   public key      11552  13088  14720  16448  17952  23552  12192  14720  16352  18272  20512  26912  bytes
+ *   secret key         32     32     32     32     32     32  12224  14752  16384  18304  20544  26944  bytes
+ *   ciphertext       2560   2976   3520   4512   6016   8320   2720   3008   3552   4544   6048   8352  bytes
+ *   work            12022  14328  16375  16631  17913  22521  12022  15831  17910  18166  19960  25080  numbers of 32 bits
+ *   work of the transformed middle product: 4 for set 0, else
+ *                    1280   1536   1792   2048   2560   3328   1280   1536   1792   2048   2560   3328  numbers of 32 bits
+ *
+ * Answers. 0 where the call is accepted; else the number of the refusal plus 256 times its place. A refused call leaves every output as it was.
+ * Checks come in the order of the numbers given with each call. A work slice is all zero after a call that passed its checks of the set and the
+ * lengths, else untouched.
+ *
+ *   1  no such set                                6  a slice too long, empty, or of a length that does not fit
+ *   2  a slice has not the set's length           7  longer than the set's largest transform
+ *   3  a number out of range, with its place      8  a set of the other scheme
+ *   4  the lent bytes end                         5  128 candidates in a row were set aside (it is not expected to happen)
+ */
+#ifndef TITANIUM_H
+#define TITANIUM_H
+
+#include <stddef.h>
+#include <stdint.h>
+
+#ifdef __cplusplus
+extern "C" {
+#endif
+
+/* The number of a refusal, 0 where the call was accepted, and its place. */
+#define TITANIUM_REFUSAL(answer) ((unsigned)((answer) & 0xff))
+#define TITANIUM_PLACE(answer) ((uint32_t)((answer) >> 8))
+
+/* Bytes of every seed, message and shared key. */
+#define TITANIUM_SEED_BYTES 32
+#define TITANIUM_MESSAGE_BYTES 32
+#define TITANIUM_SHARED_KEY_BYTES 32
+
+/* The largest lengths over all sets. */
+#define TITANIUM_MOST_PUBLIC_KEY_BYTES 26912
+#define TITANIUM_MOST_SECRET_KEY_BYTES 26944
+#define TITANIUM_MOST_CIPHERTEXT_BYTES 8352
+#define TITANIUM_MOST_WORK_NUMBERS 25080
+
+/* Lengths of a set's slices; 0 for a set above 12. */
+size_t titanium_public_key_bytes(size_t set);
+size_t titanium_secret_key_bytes(size_t set);
+size_t titanium_ciphertext_bytes(size_t set);
+size_t titanium_work_numbers(size_t set);
+
+/* Key exchange, sets 7 to 12. Refused with 1, 8 (sets 1 to 6), 2, 3 (a number of a public key, also of that inside a secret key), 5. */
+
+/* The keys of a seed. */
+uint64_t titanium_keypair(size_t set, const uint8_t *seed, size_t seed_length, uint8_t *public_key, size_t public_key_length,
+                          uint8_t *secret_key, size_t secret_key_length, uint32_t *work, size_t work_length);
+
+/* A ciphertext and a shared key from a public key and 32 random bytes, the message. */
+uint64_t titanium_encapsulate(size_t set, const uint8_t *public_key, size_t public_key_length, const uint8_t *message,
+                              size_t message_length, uint8_t *ciphertext, size_t ciphertext_length, uint8_t *shared_key,
+                              size_t shared_key_length, uint32_t *work, size_t work_length);
+
+/* The shared key of a ciphertext. A ciphertext that encapsulation did not make is not refused: it gives the standard's reject key. */
+uint64_t titanium_decapsulate(size_t set, const uint8_t *secret_key, size_t secret_key_length, const uint8_t *ciphertext,
+                              size_t ciphertext_length, uint8_t *shared_key, size_t shared_key_length, uint32_t *work,
+                              size_t work_length);
+
+/* Encryption scheme, sets 1 to 6. Refused with 1, 8 (sets 7 to 12), 2, 3 (a number of a public key or of a ciphertext's first part), 5. */
+
+/* The keys of a seed. */
+uint64_t titanium_encryption_keypair(size_t set, const uint8_t *seed, size_t seed_length, uint8_t *public_key,
+                                     size_t public_key_length, uint8_t *secret_key, size_t secret_key_length, uint32_t *work,
+                                     size_t work_length);
+
+/* The ciphertext of a message of 32 bytes under a public key and a sealing seed. */
+uint64_t titanium_encrypt(size_t set, const uint8_t *public_key, size_t public_key_length, const uint8_t *message,
+                          size_t message_length, const uint8_t *seed, size_t seed_length, uint8_t *ciphertext,
+                          size_t ciphertext_length, uint32_t *work, size_t work_length);
+
+/* The message that a ciphertext is read as. */
+uint64_t titanium_decrypt(size_t set, const uint8_t *secret_key, size_t secret_key_length, const uint8_t *ciphertext,
+                          size_t ciphertext_length, uint8_t *message, size_t message_length, uint32_t *work, size_t work_length);
+
+/* SHAKE256 of FIPS 202, KMAC256 and KMACXOF256 of SP 800-185. Refused with 6 where a slice is longer than 65,536 bytes. */
+uint64_t titanium_shake256(const uint8_t *input, size_t input_length, uint8_t *out, size_t out_length);
+uint64_t titanium_kmac256(const uint8_t *key, size_t key_length, const uint8_t *input, size_t input_length,
+                          const uint8_t *customization, size_t customization_length, uint8_t *out, size_t out_length);
+uint64_t titanium_kmacxof256(const uint8_t *key, size_t key_length, const uint8_t *input, size_t input_length,
+                             const uint8_t *customization, size_t customization_length, uint8_t *out, size_t out_length);
+
+/* Draws over lent bytes, sets 1 to 12, one result for each number of `out`. Refused with 1, 2 (more than 4,096 results, or multipliers past a
+   sealing's last position), 4, 5; the place is the result's. */
+uint64_t titanium_draw_residues(size_t set, const uint8_t *bytes, size_t bytes_length, uint32_t *out, size_t out_length);
+uint64_t titanium_draw_errors(size_t set, const uint8_t *bytes, size_t bytes_length, int32_t *out, size_t out_length);
+uint64_t titanium_draw_multipliers(size_t set, const uint8_t *bytes, size_t bytes_length, size_t first, int32_t *out,
+                                   size_t out_length);
+
+/* The middle product, sets 0 to 12. Refused with 1, 6, 7 (transformed only), 3 with the place counted through a, then b. */
+uint64_t titanium_middle_product(size_t set, const uint32_t *a, size_t a_length, const uint32_t *b, size_t b_length, uint32_t *out,
+                                 size_t out_length);
+uint64_t titanium_transformed_middle_product(size_t set, const uint32_t *a, size_t a_length, const uint32_t *b, size_t b_length,
+                                             uint32_t *out, size_t out_length, uint32_t *work, size_t work_length);
+
+/* Key, sealing and reading on numbers, sets 0 to 12. Refused with 1, 2, 3; the place is counted through a, s, e for a key, through a, b, r,
+   message for a sealing, through c1, c2, s for a reading. */
+uint64_t titanium_key_of_numbers(size_t set, const uint32_t *a, size_t a_length, const uint32_t *s, size_t s_length, const int32_t *e,
+                                 size_t e_length, uint32_t *b, size_t b_length);
+uint64_t titanium_sealing_of_numbers(size_t set, const uint32_t *a, size_t a_length, const uint32_t *b, size_t b_length,
+                                     const int32_t *r, size_t r_length, const uint32_t *message, size_t message_length, uint32_t *c1,
+                                     size_t c1_length, uint32_t *c2, size_t c2_length);
+uint64_t titanium_reading_of_numbers(size_t set, const uint32_t *c1, size_t c1_length, const uint32_t *c2, size_t c2_length,
+                                     const uint32_t *s, size_t s_length, uint32_t *bits, size_t bits_length);
+
+/* The noise sheet of an input, sets 0 to 6: how many bytes of text it wrote, which may be the line of a refusal; 0 where text has fewer than
+   1,024 bytes or work has not 22,521 numbers. */
+#define TITANIUM_SHEET_BYTES 1024
+#define TITANIUM_SHEET_WORK_NUMBERS 22521
+size_t titanium_noise_sheet(const uint8_t *input, size_t input_length, uint8_t *text, size_t text_length, uint32_t *work,
+                            size_t work_length);
+
+#ifdef __cplusplus
+}
+#endif
+
+#endif

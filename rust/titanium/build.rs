@@ -1,0 +1,6 @@
+fn main() {
+    let root = std::env::var("CARGO_MANIFEST_DIR").unwrap();
+    println!("cargo:rustc-link-search=native={root}/../../target/staticlib");
+    println!("cargo:rustc-link-lib=static=titanium");
+    println!("cargo:rerun-if-changed={root}/../../target/staticlib/libtitanium.a");
+}
