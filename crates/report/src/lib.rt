@@ -209,11 +209,19 @@ pub fn call(name: &[u8], set: usize, change: usize) {
     number(change as u64);
 }
 
-// Three bytes of ones: a packed number there is above every modulus.
-pub fn enlarge(bytes: &mut [u8], place: usize)
+// The lowest eight bits of a number.
+fn low_byte(x: usize) -> u8 {
+    (x % 256) as u8
+}
+
+// Puts the lowest 24 bits of a number into three bytes, least significant first: a number packed there is then that number.
+pub fn put_number(bytes: &mut [u8], place: usize, value: usize)
     requires { ⌜ place + 3 ≤ length (now bytes) ⌝ }
 {
-    bytes[place] = 255;
-    bytes[place + 1] = 255;
-    bytes[place + 2] = 255;
+    let low = low_byte(value);
+    let middle = low_byte(value / 256);
+    let high = low_byte(value / 65536);
+    bytes[place] = low;
+    bytes[place + 1] = middle;
+    bytes[place + 2] = high;
 }

@@ -3,23 +3,23 @@ ghost use mathlib.Core.Path.{_≡_};
 ghost use Prim.Native.Nat.{_+_, _<_, _≤_};
 ghost use lib.ListN.{length};
 
-// Set, bytes of a public key and of a ciphertext, numbers of the work slice; the first and the last three are no encryption sets.
-const SETS: [[usize; 4]; 10] = [
-    [0, 11552, 2560, 12022],
-    [1, 11552, 2560, 12022],
-    [2, 13088, 2976, 14328],
-    [3, 14720, 3520, 16375],
-    [4, 16448, 4512, 16631],
-    [5, 17952, 6016, 17913],
-    [6, 23552, 8320, 22521],
-    [7, 12192, 2688, 12022],
-    [12, 26912, 8320, 25080],
-    [13, 26912, 8320, 25080],
+// Set, bytes of a public key and of a ciphertext, numbers of the work slice, modulus; the first and the last three are no encryption sets.
+const SETS: [[usize; 5]; 10] = [
+    [0, 11552, 2560, 12022, 17],
+    [1, 11552, 2560, 12022, 240641],
+    [2, 13088, 2976, 14328, 84481],
+    [3, 14720, 3520, 16375, 86017],
+    [4, 16448, 4512, 16631, 301057],
+    [5, 17952, 6016, 17913, 737281],
+    [6, 23552, 8320, 22521, 1198081],
+    [7, 12192, 2688, 12022, 471041],
+    [12, 26912, 8320, 25080, 1198081],
+    [13, 26912, 8320, 25080, 1198081],
 ];
 
 // Key with the lengths of a set, one of them changed; `seed` has 33 bytes.
 fn key(
-    row: [usize; 4],
+    row: [usize; 5],
     change: usize,
     seed: &[u8],
     public: &mut [u8],
@@ -51,7 +51,7 @@ fn key(
 
 // Encrypt with the lengths of a set, one of them changed.
 fn encrypt(
-    row: [usize; 4],
+    row: [usize; 5],
     change: usize,
     public: &[u8],
     message: &[u8],
@@ -89,7 +89,7 @@ fn encrypt(
 
 // Decrypt with the lengths of a set, one of them changed.
 fn decrypt(
-    row: [usize; 4],
+    row: [usize; 5],
     change: usize,
     secret: &[u8],
     sealed: &[u8],
@@ -121,7 +121,7 @@ fn decrypt(
 
 // Key from a pattern; the outputs are filled with other patterns before.
 fn key_line(
-    row: [usize; 4],
+    row: [usize; 5],
     change: usize,
     seed: &[u8],
     public: &mut [u8],
@@ -142,7 +142,7 @@ fn key_line(
 
 // Encrypt, with the ciphertext filled with a pattern before.
 fn encrypt_line(
-    row: [usize; 4],
+    row: [usize; 5],
     change: usize,
     public: &[u8],
     message: &[u8],
@@ -162,7 +162,7 @@ fn encrypt_line(
 
 // Decrypt, with the message filled with a pattern before.
 fn decrypt_line(
-    row: [usize; 4],
+    row: [usize; 5],
     change: usize,
     secret: &[u8],
     sealed: &[u8],
@@ -180,7 +180,7 @@ fn decrypt_line(
 }
 
 // Each length of key changed in turn, then none.
-fn keys(row: [usize; 4], seed: &[u8], public: &mut [u8], secret: &mut [u8], work: &mut [u32])
+fn keys(row: [usize; 5], seed: &[u8], public: &mut [u8], secret: &mut [u8], work: &mut [u32])
     requires { ⌜ (length (now seed) ≡ 33) × (length (now public) ≡ 26913) × (length (now secret) ≡ 33) × (length (now work) ≡ 25081) ⌝ }
 {
     let mut left: usize = 9;
@@ -192,7 +192,7 @@ fn keys(row: [usize; 4], seed: &[u8], public: &mut [u8], secret: &mut [u8], work
 
 // Each length of encrypt changed in turn, then none.
 fn encryptions(
-    row: [usize; 4],
+    row: [usize; 5],
     public: &[u8],
     message: &[u8],
     seed: &[u8],
@@ -209,7 +209,7 @@ fn encryptions(
 }
 
 // Each length of decrypt changed in turn, then none.
-fn decryptions(row: [usize; 4], secret: &[u8], sealed: &[u8], read: &mut [u8], work: &mut [u32])
+fn decryptions(row: [usize; 5], secret: &[u8], sealed: &[u8], read: &mut [u8], work: &mut [u32])
     requires { ⌜ (length (now secret) ≡ 33) × (length (now sealed) ≡ 8321) × (length (now read) ≡ 33) × (length (now work) ≡ 25081) ⌝ }
 {
     let mut left: usize = 9;
@@ -221,7 +221,7 @@ fn decryptions(row: [usize; 4], secret: &[u8], sealed: &[u8], read: &mut [u8], w
 
 // Decrypts with the lowest bit of one more byte of the ciphertext changed.
 fn flipped(
-    row: [usize; 4],
+    row: [usize; 5],
     place: usize,
     secret: &[u8],
     sealed: &mut [u8],
@@ -235,7 +235,7 @@ fn flipped(
 }
 
 // Ciphertexts with a bit changed in the last byte, then in c2, then at the start too.
-fn damaged(row: [usize; 4], secret: &[u8], sealed: &mut [u8], read: &mut [u8], work: &mut [u32])
+fn damaged(row: [usize; 5], secret: &[u8], sealed: &mut [u8], read: &mut [u8], work: &mut [u32])
     requires { ⌜ (length (now secret) ≡ 33) × (length (now sealed) ≡ 8321) × (length (now read) ≡ 33) × (length (now work) ≡ 25081) ⌝ }
 {
     let end = report::at_most(row[2], 8320);
@@ -247,9 +247,9 @@ fn damaged(row: [usize; 4], secret: &[u8], sealed: &mut [u8], read: &mut [u8], w
     flipped(row, 0, secret, sealed, read, work);
 }
 
-// A ciphertext whose first number is above q.
+// A ciphertext whose first number is q.
 fn large_number(
-    row: [usize; 4],
+    row: [usize; 5],
     secret: &[u8],
     sealed: &mut [u8],
     read: &mut [u8],
@@ -257,13 +257,13 @@ fn large_number(
 )
     requires { ⌜ (length (now secret) ≡ 33) × (length (now sealed) ≡ 8321) × (length (now read) ≡ 33) × (length (now work) ≡ 25081) ⌝ }
 {
-    report::enlarge(sealed, 0);
+    report::put_number(sealed, 0, row[4]);
     decrypt_line(row, 0, secret, sealed, read, work);
 }
 
-// A public key whose first number is above q.
+// A public key whose first number is q.
 fn large_key(
-    row: [usize; 4],
+    row: [usize; 5],
     public: &mut [u8],
     message: &[u8],
     seed: &[u8],
@@ -272,7 +272,7 @@ fn large_key(
 )
     requires { ⌜ (length (now public) ≡ 26913) × (length (now message) ≡ 33) × (length (now seed) ≡ 33) × (length (now sealed) ≡ 8321) × (length (now work) ≡ 25081) ⌝ }
 {
-    report::enlarge(public, 32);
+    report::put_number(public, 32, row[4]);
     encrypt_line(row, 0, public, message, seed, sealed, work);
 }
 
@@ -286,7 +286,7 @@ fn seeds(seed: &mut [u8], other: &mut [u8], message: &mut [u8], start: usize)
 }
 
 // What reads a ciphertext.
-fn readings(row: [usize; 4], secret: &[u8], sealed: &mut [u8], work: &mut [u32])
+fn readings(row: [usize; 5], secret: &[u8], sealed: &mut [u8], work: &mut [u32])
     requires { ⌜ (length (now secret) ≡ 33) × (length (now sealed) ≡ 8321) × (length (now work) ≡ 25081) ⌝ }
 {
     let mut read = [0u8; 33];
@@ -297,7 +297,7 @@ fn readings(row: [usize; 4], secret: &[u8], sealed: &mut [u8], work: &mut [u32])
 
 // What follows a key.
 fn sealings(
-    row: [usize; 4],
+    row: [usize; 5],
     public: &mut [u8],
     secret: &[u8],
     message: &[u8],
@@ -314,7 +314,7 @@ fn sealings(
 
 // The key, and what follows it.
 fn run_keys(
-    row: [usize; 4],
+    row: [usize; 5],
     seed: &[u8],
     message: &[u8],
     other: &[u8],
@@ -329,7 +329,7 @@ fn run_keys(
 }
 
 // One set with one choice of seeds: everything that reads a key or a ciphertext takes what the calls before it made.
-fn run_set(row: [usize; 4], start: usize, seed: &mut [u8], other: &mut [u8], message: &mut [u8])
+fn run_set(row: [usize; 5], start: usize, seed: &mut [u8], other: &mut [u8], message: &mut [u8])
     requires { ⌜ (start ≤ 900) × (length (now seed) ≡ 33) × (length (now other) ≡ 33) × (length (now message) ≡ 33) ⌝ }
 {
     seeds(seed, other, message, start);

@@ -3,23 +3,23 @@ ghost use mathlib.Core.Path.{_≡_};
 ghost use Prim.Native.Nat.{_+_, _<_, _≤_};
 ghost use lib.ListN.{length};
 
-// Set, bytes of a public key and of a ciphertext, numbers of the work slice; the first three and the last are no sets of the key exchange.
-const SETS: [[usize; 4]; 10] = [
-    [0, 12192, 2720, 12022],
-    [1, 11552, 2560, 12022],
-    [6, 23552, 8320, 22521],
-    [7, 12192, 2720, 12022],
-    [8, 14720, 3008, 15831],
-    [9, 16352, 3552, 17910],
-    [10, 18272, 4544, 18166],
-    [11, 20512, 6048, 19960],
-    [12, 26912, 8352, 25080],
-    [13, 26912, 8352, 25080],
+// Set, bytes of a public key and of a ciphertext, numbers of the work slice, modulus; the first three and the last are no sets of the key exchange.
+const SETS: [[usize; 5]; 10] = [
+    [0, 12192, 2720, 12022, 17],
+    [1, 11552, 2560, 12022, 240641],
+    [6, 23552, 8320, 22521, 1198081],
+    [7, 12192, 2720, 12022, 471041],
+    [8, 14720, 3008, 15831, 115201],
+    [9, 16352, 3552, 17910, 118273],
+    [10, 18272, 4544, 18166, 430081],
+    [11, 20512, 6048, 19960, 783361],
+    [12, 26912, 8352, 25080, 1198081],
+    [13, 26912, 8352, 25080, 1198081],
 ];
 
 // Key with the lengths of a set, one of them changed; `seed` has 33 bytes.
 fn key(
-    row: [usize; 4],
+    row: [usize; 5],
     change: usize,
     seed: &[u8],
     public: &mut [u8],
@@ -49,7 +49,7 @@ fn key(
 
 // Encapsulate with the lengths of a set, one of them changed.
 fn encapsulate(
-    row: [usize; 4],
+    row: [usize; 5],
     change: usize,
     public: &[u8],
     message: &[u8],
@@ -87,7 +87,7 @@ fn encapsulate(
 
 // Decapsulate with the lengths of a set, one of them changed.
 fn decapsulate(
-    row: [usize; 4],
+    row: [usize; 5],
     change: usize,
     secret: &[u8],
     sealed: &[u8],
@@ -122,7 +122,7 @@ fn decapsulate(
 
 // Key from a pattern; the outputs are filled with other patterns before.
 fn key_line(
-    row: [usize; 4],
+    row: [usize; 5],
     change: usize,
     seed: &[u8],
     public: &mut [u8],
@@ -143,7 +143,7 @@ fn key_line(
 
 // Encapsulate, with the ciphertext and the shared key filled with patterns before.
 fn encapsulate_line(
-    row: [usize; 4],
+    row: [usize; 5],
     change: usize,
     public: &[u8],
     message: &[u8],
@@ -165,7 +165,7 @@ fn encapsulate_line(
 
 // Decapsulate, with the shared key filled with a pattern before.
 fn decapsulate_line(
-    row: [usize; 4],
+    row: [usize; 5],
     change: usize,
     secret: &[u8],
     sealed: &[u8],
@@ -183,7 +183,7 @@ fn decapsulate_line(
 }
 
 // Each length of key changed in turn, then none.
-fn keys(row: [usize; 4], seed: &[u8], public: &mut [u8], secret: &mut [u8], work: &mut [u32])
+fn keys(row: [usize; 5], seed: &[u8], public: &mut [u8], secret: &mut [u8], work: &mut [u32])
     requires { ⌜ (length (now seed) ≡ 33) × (length (now public) ≡ 26913) × (length (now secret) ≡ 26945) × (length (now work) ≡ 25081) ⌝ }
 {
     let mut left: usize = 9;
@@ -195,7 +195,7 @@ fn keys(row: [usize; 4], seed: &[u8], public: &mut [u8], secret: &mut [u8], work
 
 // Each length of encapsulate changed in turn, then none.
 fn encapsulations(
-    row: [usize; 4],
+    row: [usize; 5],
     public: &[u8],
     message: &[u8],
     sealed: &mut [u8],
@@ -213,7 +213,7 @@ fn encapsulations(
 
 // Each length of decapsulate changed in turn, then none.
 fn decapsulations(
-    row: [usize; 4],
+    row: [usize; 5],
     secret: &[u8],
     sealed: &[u8],
     shared: &mut [u8],
@@ -251,7 +251,7 @@ fn damaged_place(end: usize, i: usize) -> usize {
 
 // Decapsulates with the lowest bit of one byte of the ciphertext changed, the byte of damage number `i`, and changes it back.
 fn flipped(
-    row: [usize; 4],
+    row: [usize; 5],
     i: usize,
     secret: &[u8],
     sealed: &mut [u8],
@@ -267,7 +267,7 @@ fn flipped(
 }
 
 // Ciphertexts with one bit changed.
-fn damaged(row: [usize; 4], secret: &[u8], sealed: &mut [u8], shared: &mut [u8], work: &mut [u32])
+fn damaged(row: [usize; 5], secret: &[u8], sealed: &mut [u8], shared: &mut [u8], work: &mut [u32])
     requires { ⌜ (length (now secret) ≡ 26945) × (length (now sealed) ≡ 8353) × (length (now shared) ≡ 33) × (length (now work) ≡ 25081) ⌝ }
 {
     let mut left: usize = 4;
@@ -277,9 +277,9 @@ fn damaged(row: [usize; 4], secret: &[u8], sealed: &mut [u8], shared: &mut [u8],
     }
 }
 
-// A ciphertext whose first number is above q.
+// A ciphertext whose first number is q.
 fn large_number(
-    row: [usize; 4],
+    row: [usize; 5],
     secret: &[u8],
     sealed: &mut [u8],
     shared: &mut [u8],
@@ -287,13 +287,13 @@ fn large_number(
 )
     requires { ⌜ (length (now secret) ≡ 26945) × (length (now sealed) ≡ 8353) × (length (now shared) ≡ 33) × (length (now work) ≡ 25081) ⌝ }
 {
-    report::enlarge(sealed, 0);
+    report::put_number(sealed, 0, row[4]);
     decapsulate_line(row, 0, secret, sealed, shared, work);
 }
 
-// A public key whose first number is above q.
+// A public key whose first number is q.
 fn large_key(
-    row: [usize; 4],
+    row: [usize; 5],
     public: &mut [u8],
     message: &[u8],
     sealed: &mut [u8],
@@ -302,13 +302,13 @@ fn large_key(
 )
     requires { ⌜ (length (now public) ≡ 26913) × (length (now message) ≡ 33) × (length (now sealed) ≡ 8353) × (length (now shared) ≡ 33) × (length (now work) ≡ 25081) ⌝ }
 {
-    report::enlarge(public, 32);
+    report::put_number(public, 32, row[4]);
     encapsulate_line(row, 0, public, message, sealed, shared, work);
 }
 
-// A secret key whose public key has a first number above q.
+// A secret key whose public key has q for its first number.
 fn large_secret(
-    row: [usize; 4],
+    row: [usize; 5],
     secret: &mut [u8],
     sealed: &[u8],
     shared: &mut [u8],
@@ -316,12 +316,12 @@ fn large_secret(
 )
     requires { ⌜ (length (now secret) ≡ 26945) × (length (now sealed) ≡ 8353) × (length (now shared) ≡ 33) × (length (now work) ≡ 25081) ⌝ }
 {
-    report::enlarge(secret, 64);
+    report::put_number(secret, 64, row[4]);
     decapsulate_line(row, 0, secret, sealed, shared, work);
 }
 
 // What opens a ciphertext.
-fn openings(row: [usize; 4], secret: &mut [u8], sealed: &mut [u8], work: &mut [u32])
+fn openings(row: [usize; 5], secret: &mut [u8], sealed: &mut [u8], work: &mut [u32])
     requires { ⌜ (length (now secret) ≡ 26945) × (length (now sealed) ≡ 8353) × (length (now work) ≡ 25081) ⌝ }
 {
     let mut shared = [0u8; 33];
@@ -332,7 +332,7 @@ fn openings(row: [usize; 4], secret: &mut [u8], sealed: &mut [u8], work: &mut [u
 }
 
 // What makes a ciphertext; last, with a damaged key.
-fn sealings(row: [usize; 4], public: &mut [u8], message: &[u8], sealed: &mut [u8], work: &mut [u32])
+fn sealings(row: [usize; 5], public: &mut [u8], message: &[u8], sealed: &mut [u8], work: &mut [u32])
     requires { ⌜ (length (now public) ≡ 26913) × (length (now message) ≡ 33) × (length (now sealed) ≡ 8353) × (length (now work) ≡ 25081) ⌝ }
 {
     let mut shared = [0u8; 33];
@@ -343,7 +343,7 @@ fn sealings(row: [usize; 4], public: &mut [u8], message: &[u8], sealed: &mut [u8
 
 // What follows a key.
 fn exchanges(
-    row: [usize; 4],
+    row: [usize; 5],
     public: &mut [u8],
     secret: &mut [u8],
     message: &[u8],
@@ -358,7 +358,7 @@ fn exchanges(
 
 // The key, and what follows it.
 fn run_keys(
-    row: [usize; 4],
+    row: [usize; 5],
     seed: &[u8],
     message: &[u8],
     public: &mut [u8],
@@ -372,7 +372,7 @@ fn run_keys(
 }
 
 // One set with one choice of seed and message: everything that reads a key or a ciphertext takes what the calls before it made.
-fn run_set(row: [usize; 4], start: usize, seed: &mut [u8], message: &mut [u8])
+fn run_set(row: [usize; 5], start: usize, seed: &mut [u8], message: &mut [u8])
     requires { ⌜ (start ≤ 900) × (length (now seed) ≡ 33) × (length (now message) ≡ 33) ⌝ }
 {
     report::fill_bytes(seed, start);

@@ -4,23 +4,23 @@ use super::calls::{checked, work_sum};
 use super::report::{answer, byte_sum, hex, pattern};
 use crate::scheme::{decapsulate, encapsulate, exchange_key};
 
-/// Set, bytes of a public key and of a ciphertext, numbers of the work slice.
-const SETS: [[usize; 4]; 10] = [
-    [0, 12192, 2720, 12022],
-    [1, 11552, 2560, 12022],
-    [6, 23552, 8320, 22521],
-    [7, 12192, 2720, 12022],
-    [8, 14720, 3008, 15831],
-    [9, 16352, 3552, 17910],
-    [10, 18272, 4544, 18166],
-    [11, 20512, 6048, 19960],
-    [12, 26912, 8352, 25080],
-    [13, 26912, 8352, 25080],
+/// Set, bytes of a public key and of a ciphertext, numbers of the work slice, modulus.
+const SETS: [[usize; 5]; 10] = [
+    [0, 12192, 2720, 12022, 17],
+    [1, 11552, 2560, 12022, 240641],
+    [6, 23552, 8320, 22521, 1198081],
+    [7, 12192, 2720, 12022, 471041],
+    [8, 14720, 3008, 15831, 115201],
+    [9, 16352, 3552, 17910, 118273],
+    [10, 18272, 4544, 18166, 430081],
+    [11, 20512, 6048, 19960, 783361],
+    [12, 26912, 8352, 25080, 1198081],
+    [13, 26912, 8352, 25080, 1198081],
 ];
 
 /// One set with one choice of seed and message.
 struct Case {
-    row: [usize; 4],
+    row: [usize; 5],
     seed: Vec<u8>,
     message: Vec<u8>,
     public: Vec<u8>,
@@ -30,7 +30,7 @@ struct Case {
 
 impl Case {
     fn key(&mut self, change: usize) -> String {
-        let [number, public_bytes, _, numbers] = self.row;
+        let [number, public_bytes, _, numbers, _] = self.row;
         let passed = checked(7..=12, number, change);
         let made = passed.and_then(|s| exchange_key(&s, &self.seed[..32]));
         (self.public, self.secret) = (pattern(26913, 1), pattern(26945, 2));
@@ -43,7 +43,7 @@ impl Case {
     }
 
     fn encapsulate(&self, change: usize) -> (String, Vec<u8>) {
-        let [number, public_bytes, sealed_bytes, numbers] = self.row;
+        let [number, public_bytes, sealed_bytes, numbers, _] = self.row;
         let passed = checked(7..=12, number, change);
         let made = passed.and_then(|s| encapsulate(&s, &self.public[..public_bytes], &self.message[..32]));
         let (mut sealed, mut shared) = (pattern(8353, 3), pattern(33, 4));
@@ -56,7 +56,7 @@ impl Case {
     }
 
     fn decapsulate(&self, change: usize) -> String {
-        let [number, public_bytes, sealed_bytes, numbers] = self.row;
+        let [number, public_bytes, sealed_bytes, numbers, _] = self.row;
         let passed = checked(7..=12, number, change);
         let made = passed.and_then(|s| decapsulate(&s, &self.secret[..32 + public_bytes], &self.sealed[..sealed_bytes]));
         let mut shared = pattern(33, 5);
@@ -74,22 +74,23 @@ impl Case {
     }
 
     fn text(&mut self) -> String {
+        let modulus = [0, 8, 16].map(|bit| (self.row[4] >> bit) as u8);
         let mut text = (0..9).rev().map(|change| self.key(change)).collect::<String>();
         text += &(0..11).rev().map(|change| self.encapsulate(change).0).collect::<String>();
         self.sealed = self.encapsulate(0).1;
-        self.public[32..35].fill(255);
+        self.public[32..35].copy_from_slice(&modulus);
         text += &self.encapsulate(0).0;
         text += &(0..9).rev().map(|change| self.decapsulate(change)).collect::<String>();
         let end = self.row[2];
         text += &[end - 1, end - 32, end - 232, 0].map(|place| self.flipped(place)).concat();
-        self.sealed[..3].fill(255);
+        self.sealed[..3].copy_from_slice(&modulus);
         text += &self.decapsulate(0);
-        self.secret[64..67].fill(255);
+        self.secret[64..67].copy_from_slice(&modulus);
         text + &self.decapsulate(0)
     }
 }
 
-fn case(row: [usize; 4], start: usize) -> String {
+fn case(row: [usize; 5], start: usize) -> String {
     let [seed, message] = [start, start + 2].map(|start| pattern(33, start));
     Case { row, seed, message, public: Vec::new(), secret: Vec::new(), sealed: Vec::new() }.text()
 }
