@@ -46,8 +46,8 @@ fn sponges(random: &mut Random) -> Vec<u8> {
 }
 
 fn residues(random: &mut Random) -> u8 {
-    let (number, wanted) = (random.set(), random.below(200));
-    let length = random.below(800);
+    let (number, wanted) = (random.set(), random.wanted());
+    let length = random.below(800) + if random.one_in(2) { 3 * wanted } else { 0 };
     let mut bytes = random.bytes(length);
     if random.one_in(3) && length > 500 {
         bytes[30..30 + 3 * (120 + random.below(12))].fill(255);
@@ -60,7 +60,8 @@ fn residues(random: &mut Random) -> u8 {
 }
 
 fn errors(random: &mut Random) -> u8 {
-    let (number, wanted, length) = (random.set(), random.below(200), random.below(300));
+    let (number, wanted) = (random.set(), random.wanted());
+    let length = if random.one_in(2) { random.length(wanted) } else { random.below(300) };
     let bytes = random.bytes(length);
     let mut out = Lent::new(wanted, 7);
     let given = titanium::draw_errors(number, &bytes, out.slice());
@@ -70,7 +71,7 @@ fn errors(random: &mut Random) -> u8 {
 }
 
 fn multipliers(random: &mut Random) -> u8 {
-    let (number, wanted, length) = (random.set(), random.below(200), random.below(16000));
+    let (number, wanted, length) = (random.set(), random.wanted(), random.below(22000));
     let first = random.below(9000);
     let bytes = random.bytes(length);
     let mut out = Lent::new(wanted, 7);
@@ -83,7 +84,8 @@ fn multipliers(random: &mut Random) -> u8 {
 fn middle_product(random: &mut Random) -> Vec<u8> {
     let number = random.set();
     let p = set(number.min(12)).unwrap();
-    let (a, results) = (random.below(p.sizes[2]), random.below(p.sizes[2] / 2));
+    let a = if random.one_in(12) { 4095 + random.below(3) } else { random.below(p.sizes[2]) };
+    let results = if random.one_in(4) { 1 } else { random.below(p.sizes[2] / 2) };
     let b = random.length((a + results).saturating_sub(1));
     let w = random.length(p.sizes[2]);
     let (a, b) = (random.residues(p.q, a), random.residues(p.q, b));

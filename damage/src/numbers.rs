@@ -11,14 +11,20 @@ fn some_set(random: &mut Random) -> (usize, Option<Set>, Set) {
     (number, set(number), set(number.min(12)).unwrap())
 }
 
+/// Seldom puts a number at or over a bound, or 0, at any place.
+fn out_of_bounds(random: &mut Random, numbers: &mut [i32], size: i32) {
+    if !numbers.is_empty() && random.one_in(4) {
+        let place = random.below(numbers.len());
+        numbers[place] = [size, size + 1, -size, -size - 1, 0, i32::MAX, i32::MIN][random.below(7)];
+    }
+}
+
 fn key(random: &mut Random) -> u8 {
     let (number, found, p) = some_set(random);
     let count = p.t * (p.d + p.k);
     let [a, s, e, b] = [p.t * p.n, p.n + p.d + p.k - 1, count, count].map(|right| random.length(right));
     let (a, s, mut e) = (random.residues(p.q, a), random.residues(p.q, s), random.signed(p.eta as i32, e));
-    if random.one_in(6) {
-        e[0] = p.eta as i32 + 1;
-    }
+    out_of_bounds(random, &mut e, p.eta as i32);
     let mut out = Lent::new(b, 7);
     let given = titanium::key_of_numbers(number, &a, &s, &e, out.slice());
     let made = other::key(found, &a, &s, &e, b);
@@ -43,9 +49,8 @@ fn sealing(random: &mut Random) -> u8 {
     let [a, b, r, m, c1, c2] = rights.map(|right| random.length(right));
     let (a, b) = (random.residues(p.q, a), random.residues(p.q, b));
     let mut r: Vec<i32> = random.signed(2, r).iter().map(|&z| if z == 0 { 1 } else { z }).collect();
-    if random.one_in(6) {
-        r[0] = 0;
-    }
+    let bits = if random.one_in(2) { p.b1 } else { p.b2 };
+    out_of_bounds(random, &mut r, 1 << bits);
     let message = random.residues(2, m);
     let (mut first, mut second) = (Lent::new(c1, 7), Lent::new(c2, 7));
     let given = titanium::sealing_of_numbers(number, &a, &b, &r, &message, first.slice(), second.slice());

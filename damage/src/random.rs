@@ -46,17 +46,32 @@ impl Random {
         (0..length).map(|_| self.below(2 * size as usize + 1) as i32 - size).collect()
     }
 
-    /// A set from 0 to 13; an encryption or exchange set more often than not.
+    /// A set from 0 to 14; an encryption or exchange set more often than not, and seldom a number far above all sets.
     pub fn set(&mut self) -> usize {
-        if self.one_in(3) { self.below(14) } else { 1 + self.below(12) }
+        match self.below(24) {
+            0 => self.below(15) << 32 | 1 << 48,
+            1 => 256 + self.below(15),
+            2..=8 => self.below(15),
+            _ => 1 + self.below(12),
+        }
     }
 
-    /// A length, seldom one more or one less.
+    /// A length, seldom one more, one less, or 0.
     pub fn length(&mut self, right: usize) -> usize {
-        match self.below(24) {
-            0 => right + 1,
-            1 => right.saturating_sub(1),
+        match self.below(60) {
+            0 | 1 => right + 1,
+            2 | 3 => right.saturating_sub(1),
+            4 => 0,
             _ => right,
+        }
+    }
+
+    /// How many results are wanted: seldom about 4,096, the most that calls accept.
+    pub fn wanted(&mut self) -> usize {
+        if self.one_in(12) {
+            4095 + self.below(3)
+        } else {
+            self.below(200)
         }
     }
 }

@@ -29,17 +29,21 @@ fn expect_work(work: &Lent<u32>, length: usize, checked: &Result<Set, Refusal>) 
     work.expect(checked.as_ref().map(|_| vec![0; length]).as_ref().map(|zeros| zeros.as_slice()));
 }
 
-/// Seldom changes a bit, or puts three bytes of ones, a number above every modulus.
-fn damage(random: &mut Random, bytes: &mut [u8]) {
-    if bytes.len() < 40 || !random.one_in(3) {
-        return;
+/// Seldom changes a bit, puts three bytes of ones, a number above every modulus, or puts q or the number before it at a place; seldom makes the bytes
+/// one more, one less, or none.
+fn damage(random: &mut Random, bytes: &mut Vec<u8>, first: usize, q: u64) {
+    if bytes.len() > first + 3 {
+        let place = random.below(bytes.len() - 2);
+        match random.below(12) {
+            0 | 1 => bytes[place] ^= 1 << random.below(8),
+            2 => bytes[place..place + 3].fill(255),
+            3 => bytes[first..first + 3].copy_from_slice(&q.to_le_bytes()[..3]),
+            4 => bytes[first..first + 3].copy_from_slice(&(q - 1).to_le_bytes()[..3]),
+            _ => (),
+        }
     }
-    let place = random.below(bytes.len() - 3);
-    if random.one_in(2) {
-        bytes[place] ^= 1 << random.below(8);
-    } else {
-        bytes[place..place + 3].fill(255);
-    }
+    let length = random.length(bytes.len());
+    bytes.resize(length, 0);
 }
 
 fn key(random: &mut Random, number: usize, own: RangeInclusive<usize>) -> (u8, Vec<u8>, Vec<u8>) {
@@ -109,10 +113,11 @@ fn open(random: &mut Random, number: usize, own: RangeInclusive<usize>, secret: 
 pub fn round(random: &mut Random) -> Vec<u8> {
     let number = random.set();
     let own = if random.one_in(8) == (number > 6) { 1..=6 } else { 7..=12 };
+    let q = set(number.min(12)).unwrap().q;
     let (first, mut public, mut secret) = key(random, number, own.clone());
-    damage(random, &mut public);
+    damage(random, &mut public, 32, q);
     let (second, mut sealed) = if own.contains(&12) { encapsulate(random, number, &public) } else { encrypt(random, number, &public) };
-    damage(random, &mut sealed);
-    damage(random, &mut secret);
+    damage(random, &mut sealed, 0, q);
+    damage(random, &mut secret, 64, q);
     vec![first, second, open(random, number, own, &secret, &sealed)]
 }

@@ -14,7 +14,7 @@ use Rattle.maths.specs.Integer.{sumℤ}
 use Rattle.maths.proofs.Integer.{natAbs-+ℤ, natAbs-*ℤ}
 use Rattle.calls.specs.Region.{region}
 use Rattle.sets.specs.Table.{none, table, setOf}
-use Rattle.numbers.specs.Noise.{productℤ, noise}
+use Rattle.numbers.specs.Noise.{productℤ, numbersNoise}
 use Rattle.bench_rows.specs.Bench.{bench}
 
 -- both entries of a list of two written
@@ -39,21 +39,21 @@ product-small x y h k = rw (natAbs-*ℤ x y) (mul-le-mul {n₁ = natAbs x} {m₁
 
 -- the products at a place of the noise
 noise-entries : (a b c x y : ℤ) (j : ℕ) → j < 2
-    → x *ℤ getD (a ∷ b ∷ c ∷ []) (j + 1) (pos 0) +ℤ y *ℤ getD (a ∷ b ∷ c ∷ []) j (pos 0) ≡ noise bench (a ∷ b ∷ c ∷ []) (x ∷ y ∷ []) j
-unfolding noise productℤ sumℤ region none table setOf
+    → x *ℤ getD (a ∷ b ∷ c ∷ []) (j + 1) (pos 0) +ℤ y *ℤ getD (a ∷ b ∷ c ∷ []) j (pos 0) ≡ numbersNoise bench (a ∷ b ∷ c ∷ []) (x ∷ y ∷ []) j
+unfolding numbersNoise productℤ sumℤ region none table setOf
 noise-entries a b c x y zero h = sym (+ℤ-idl _ ∙ ap (λ (z : ℤ). z +ℤ y *ℤ a) (+ℤ-idl (x *ℤ b)))
 noise-entries a b c x y (suc zero) h = sym (+ℤ-idl _ ∙ ap₂ _+ℤ_ (ap (λ (z : ℤ). z +ℤ y *ℤ b) (+ℤ-idl (x *ℤ c))) (zero-*ℤ a) ∙ +ℤ-idr _)
 noise-entries a b c x y (suc (suc j)) h = absurd (omega arith)
 
 noise-multipliers : (a b c : ℤ) (r : List ℤ) (j : ℕ) → length r ≡ 2 → j < 2
-    → getD r 0 (pos 0) *ℤ getD (a ∷ b ∷ c ∷ []) (j + 1) (pos 0) +ℤ getD r 1 (pos 0) *ℤ getD (a ∷ b ∷ c ∷ []) j (pos 0) ≡ noise bench (a ∷ b ∷ c ∷ []) r j
+    → getD r 0 (pos 0) *ℤ getD (a ∷ b ∷ c ∷ []) (j + 1) (pos 0) +ℤ getD r 1 (pos 0) *ℤ getD (a ∷ b ∷ c ∷ []) j (pos 0) ≡ numbersNoise bench (a ∷ b ∷ c ∷ []) r j
 noise-multipliers a b c [] j e h = absurd (omega arith)
 noise-multipliers a b c (x ∷ []) j e h = absurd (omega arith)
 noise-multipliers a b c (x ∷ y ∷ []) j e h = noise-entries a b c x y j h
 noise-multipliers a b c (x ∷ y ∷ z ∷ r) j e h = absurd (omega arith)
 
 pub noise-two : (e r : List ℤ) (j : ℕ) → length e ≡ 3 → length r ≡ 2 → j < 2
-    → getD r 0 (pos 0) *ℤ getD e (j + 1) (pos 0) +ℤ getD r 1 (pos 0) *ℤ getD e j (pos 0) ≡ noise bench e r j
+    → getD r 0 (pos 0) *ℤ getD e (j + 1) (pos 0) +ℤ getD r 1 (pos 0) *ℤ getD e j (pos 0) ≡ numbersNoise bench e r j
 noise-two [] r j three two h = absurd (omega arith)
 noise-two (a ∷ []) r j three two h = absurd (omega arith)
 noise-two (a ∷ b ∷ []) r j three two h = absurd (omega arith)

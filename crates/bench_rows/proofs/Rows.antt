@@ -13,7 +13,7 @@ use Rattle.calls.proofs.Outcome.{leaves-accepted}
 use Rattle.calls.proofs.Checks.{refuseFirst-fails, refuseFirst-passes}
 use Rattle.numbers.specs.Scheme.{key, firstPart, secondPart, reading}
 use Rattle.numbers.specs.Calls.{keyAnswer, keyLeft, sealingAnswer, firstPartLeft, secondPartLeft, readingAnswer, readingLeft}
-use Rattle.numbers.specs.Noise.{noise}
+use Rattle.numbers.specs.Noise.{numbersNoise}
 use Rattle.claim.specs.Claim.{Inputs, sealedPart}
 use Rattle.claim.proofs.Claim.{chain, claim}
 use Rattle.bench_rows.specs.Bench.{bench, benchPublic, benchSecret, benchErrors, benchMultipliers, benchMessage, benchFits, benchAnswer, benchNoise, benchRead, BenchReads}
@@ -46,7 +46,7 @@ three-steps a s e r m given b₀ c1₀ c2₀ bits₀ {b} {c1} {c2} {bits} lb l1 
     kr ∙ leaves-accepted (reading 0 bench c1 c2 s) bits₀ opened ∙ rw (is-c1, is-c2)
 
 -- the noise, from copies of the errors and multipliers
-pub noise-from : (input : List ℕ) {e r : List ℤ} → e ≡ benchErrors input → r ≡ benchMultipliers input → map (noise bench e r) (0 ∷ 1 ∷ []) ≡ benchNoise input
+pub noise-from : (input : List ℕ) {e r : List ℤ} → e ≡ benchErrors input → r ≡ benchMultipliers input → map (numbersNoise bench e r) (0 ∷ 1 ∷ []) ≡ benchNoise input
 unfolding benchNoise
 noise-from input same-e same-r = rw (same-e, same-r)
 
@@ -57,7 +57,7 @@ unfolding benchRead
 read-from input same-a same-s same-e same-r same-m = rw (same-a, same-s, same-e, same-r, same-m)
 
 -- the noise at a place
-noise-at : (input : List ℕ) (j : ℕ) → j < 2 → getD (benchNoise input) j (pos 0) ≡ noise bench (benchErrors input) (benchMultipliers input) j
+noise-at : (input : List ℕ) (j : ℕ) → j < 2 → getD (benchNoise input) j (pos 0) ≡ numbersNoise bench (benchErrors input) (benchMultipliers input) j
 unfolding benchNoise
 noise-at input zero h = refl
 noise-at input (suc zero) h = refl

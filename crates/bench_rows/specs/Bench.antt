@@ -20,7 +20,7 @@ use Rattle.sets.specs.Table.{none, table, setOf}
 use Rattle.sets.specs.Derived.{halfModulus}
 use Rattle.numbers.specs.Scheme.{key, sumOfProducts, firstPart, secondPart, opened, bitRead, reading}
 use Rattle.numbers.specs.Calls.{isError, isMultiplier, multiplierBound}
-use Rattle.numbers.specs.Noise.{productℤ, noise}
+use Rattle.numbers.specs.Noise.{productℤ, numbersNoise}
 use Rattle.claim.specs.Claim.{sealedPart}
 
 -- the parameters of set 0
@@ -61,7 +61,7 @@ benchAnswer input = refuseFirst benchFits 0 0 input accepted
 
 -- the noise at places 0 and 1
 unfoldable pub benchNoise : List ℕ → List ℤ
-benchNoise input = map (noise bench (benchErrors input) (benchMultipliers input)) (0 ∷ 1 ∷ [])
+benchNoise input = map (numbersNoise bench (benchErrors input) (benchMultipliers input)) (0 ∷ 1 ∷ [])
 
 -- the bits that reading gives on what key and sealing give
 unfoldable pub benchRead : List ℕ → List ℕ
@@ -84,7 +84,7 @@ unfolding benchAnswer benchFits signed refuseFirst passing none table setOf mult
 benchAnswer-example = refl
 
 benchNoise-example : benchNoise example ≡ negsuc 1 ∷ negsuc 0 ∷ []
-unfolding benchNoise signed region none table setOf noise productℤ sumℤ
+unfolding benchNoise signed region none table setOf numbersNoise productℤ sumℤ
 benchNoise-example = refl
 
 benchRead-example : benchRead example ≡ 1 ∷ 0 ∷ []

@@ -25,7 +25,7 @@ fn two_products(x: i32, y: i32, u: i32, v: i32) -> i64
 // The noise at place `j`.
 fn noise_place(e: &[i32], r: &[i32], j: usize) -> i64
     requires { ⌜ Small (now e) (now r) × (j < 2) ⌝ }
-    ensures { λ x. ⌜ x ≡ noises.noise bench (now (e .entry)) (now (r .entry)) j ⌝ }
+    ensures { λ x. ⌜ x ≡ noises.numbersNoise bench (now (e .entry)) (now (r .entry)) j ⌝ }
 {
     two_products(r[0], e[j + 1], r[1], e[j])
 }
@@ -33,7 +33,7 @@ fn noise_place(e: &[i32], r: &[i32], j: usize) -> i64
 // Writes the noise at both places.
 fn fill_noise(e: &[i32], r: &[i32], noise: &mut [i64])
     requires { ⌜ Small (now e) (now r) × (length (now noise) ≡ 2) ⌝ }
-    ensures { λ _. ⌜ now (noise .exit) ≡ map (noises.noise bench (now (e .entry)) (now (r .entry))) (0 ∷ 1 ∷ []) ⌝ }
+    ensures { λ _. ⌜ now (noise .exit) ≡ map (noises.numbersNoise bench (now (e .entry)) (now (r .entry))) (0 ∷ 1 ∷ []) ⌝ }
 {
     noise[0] = noise_place(e, r, 0);
     noise[1] = noise_place(e, r, 1);

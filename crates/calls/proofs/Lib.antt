@@ -2,3 +2,4 @@ pub mod Outcome
 pub mod Checks
 pub mod Region
 pub mod Filled
+pub mod Parts

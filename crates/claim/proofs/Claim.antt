@@ -22,7 +22,7 @@ use Rattle.sets.proofs.Rules.{rules, byteRules}
 use Rattle.middle.proofs.Chained.{Below, two-slices}
 use Rattle.numbers.specs.Scheme.{key, firstPart, opened}
 use Rattle.numbers.specs.Calls.{isError, isMultiplier}
-use Rattle.numbers.specs.Noise.{noise}
+use Rattle.numbers.specs.Noise.{numbersNoise}
 use Rattle.numbers.proofs.BitLaws.{bitRead-bench, bitRead-centred}
 use Rattle.numbers.proofs.KeyLaws.{key-length, key-below, key-numbers}
 use Rattle.numbers.proofs.SealingLaws.{firstPart-length, firstPart-below, secondPart-length, secondPart-below, sealing-numbers}
@@ -70,7 +70,7 @@ module _ (set : ℕ) (within : set < 13) (a s : List ℕ) (e r : List ℤ) (m : 
 
   module _ (j : ℕ) (h : j < setOf set .d) where
     -- the number opened, as a residue
-    exact : opened (setOf set) (firstPart (setOf set) a r) (sealedPart (setOf set) a s e r m) s j ≡ (residue (setOf set .q) (noise (setOf set) e r j) + halfModulus (setOf set) * at m j) % setOf set .q
+    exact : opened (setOf set) (firstPart (setOf set) a r) (sealedPart (setOf set) a s e r m) s j ≡ (residue (setOf set .q) (numbersNoise (setOf set) e r j) + halfModulus (setOf set) * at m j) % setOf set .q
     exact =
         let kept = rules set within in
         sym (mod-eq-of-lt (opened-below (setOf set) (firstPart (setOf set) a r) (sealedPart (setOf set) a s e r m) s j (omega (arith, kept .prime .above))))
@@ -81,7 +81,7 @@ module _ (set : ℕ) (within : set < 13) (a s : List ℕ) (e r : List ℤ) (m : 
     claim =
         let p = setOf set in
         let half = halfModulus p in
-        let N = noise p e r j in
+        let N = numbersNoise p e r j in
         let w = opened p (firstPart p a r) (sealedPart p a s e r m) s j in
         let odd = rules set within .odd in
         let bit : at m j ≤ 1 = omega (arith, given .message-length, given .message j (omega (arith, given .message-length))) in

@@ -17,7 +17,7 @@ use Rattle.calls.specs.Region.{region}
 use Rattle.sets.specs.declared.Parameters.{Parameters}
 use Rattle.calls.specs.Region.{vector}
 use Rattle.numbers.specs.Scheme.{residues}
-use Rattle.numbers.specs.Noise.{productℤ, noise}
+use Rattle.numbers.specs.Noise.{productℤ, numbersNoise}
 use Rattle.numbers.proofs.KeyLaws.{residues-at}
 
 module _ {A B : Type 0} (f : A → B) where
@@ -54,8 +54,8 @@ product-residue q x y l some =
 
 -- the residue of the noise
 pub noise-residue : (p : Parameters) (e r : List ℤ) (j : ℕ) → 0 < p .q
-    → Mod (p .q) (sum (p .t) (λ i. sum (suc (p .k + j)) (λ l. at (vector (p .k + 1) (residues (p .q) r) i) l * residue (p .q) (getD (vector (p .d + p .k) e i) (p .k + j - l) (pos 0))))) (residue (p .q) (noise p e r j))
-unfolding noise
+    → Mod (p .q) (sum (p .t) (λ i. sum (suc (p .k + j)) (λ l. at (vector (p .k + 1) (residues (p .q) r) i) l * residue (p .q) (getD (vector (p .d + p .k) e i) (p .k + j - l) (pos 0))))) (residue (p .q) (numbersNoise p e r j))
+unfolding numbersNoise
 noise-residue p e r j some =
     rw (residue-sumℤ (p .q) (p .t) (λ i. productℤ (vector (p .k + 1) r i) (vector (p .d + p .k) e i) (p .k + j)) some)
     (mod-trans

@@ -20,7 +20,7 @@ use Rattle.sets.specs.Derived.{halfModulus}
 use Rattle.sets.specs.Rules.{Rules}
 use Rattle.calls.specs.Region.{vector}
 use Rattle.numbers.specs.Scheme.{residues, key, sumOfProducts, firstPart, secondPart, opened}
-use Rattle.numbers.specs.Noise.{noise}
+use Rattle.numbers.specs.Noise.{numbersNoise}
 use Rattle.numbers.proofs.Family.{vector-fits}
 use Rattle.numbers.proofs.KeyLaws.{key-at}
 use Rattle.numbers.proofs.SealingLaws.{firstPart-length, firstPart-at, secondPart-at}
@@ -71,20 +71,20 @@ module _ (p : Parameters) (kept : Rules p) (a s : List ℕ) (e : List ℤ) where
         (mod-eq (sym (product-first (p .n + p .k) (firstPart p a r) s (p .n + p .k - 1 + j) (omega (arith, firstPart-length p a r)) (omega (arith, kept .some-n)))))
 
     -- the errors add up to the noise
-    noise-sum : Mod (p .q) (sum (p .t) noises) (residue (p .q) (noise p e r j))
+    noise-sum : Mod (p .q) (sum (p .t) noises) (residue (p .q) (numbersNoise p e r j))
     unfolding noises multiplier error
     noise-sum = noise-residue p e r j (omega (arith, kept .prime .above))
 
     -- c2 is c1 against s, plus the noise, plus h times the message bit
-    second : Mod (p .q) (at (secondPart p (key p a s e) r m) j) (product (firstPart p a r) s (p .n + p .k - 1 + j) + (residue (p .q) (noise p e r j) + halfModulus p * at m j))
+    second : Mod (p .q) (at (secondPart p (key p a s e) r m) j) (product (firstPart p a r) s (p .n + p .k - 1 + j) + (residue (p .q) (numbersNoise p e r j) + halfModulus p * at m j))
     unfolding public noises multiplier error sumOfProducts
     second =
         let b = key p a s e in
         let each : (i : ℕ) → i < p .t → Mod (p .q) (product (multiplier i) (vector (p .d + p .k) b i) (p .k + j)) (public i + noises i) = λ i inside. one-vector (p .n) (p .k) j (omega (arith, kept .some-n)) (multiplier i) (vector (p .n) a i) s (vector-most (p .k + 1) (residues (p .q) r) i) (vector-most (p .n) a i) (p .q) (p .d) (vector (p .d + p .k) b i) (error i) h (λ l room. key-vector i l inside room) in
-        let sums : Mod (p .q) (sum (p .t) (λ i. product (multiplier i) (vector (p .d + p .k) b i) (p .k + j))) (product (firstPart p a r) s (p .n + p .k - 1 + j) + residue (p .q) (noise p e r j)) = mod-trans (mod-sum (p .t) _ (λ i. public i + noises i) each) (mod-trans (mod-eq (sum-add (p .t) public noises)) (mod-add public-sum noise-sum)) in
+        let sums : Mod (p .q) (sum (p .t) (λ i. product (multiplier i) (vector (p .d + p .k) b i) (p .k + j))) (product (firstPart p a r) s (p .n + p .k - 1 + j) + residue (p .q) (numbersNoise p e r j)) = mod-trans (mod-sum (p .t) _ (λ i. public i + noises i) each) (mod-trans (mod-eq (sum-add (p .t) public noises)) (mod-add public-sum noise-sum)) in
         rw (secondPart-at p b r m j h) (mod-trans (mod-remainder (p .q) _) (mod-trans (mod-add sums (mod-refl (halfModulus p * at m j))) (mod-eq (omega arith))))
 
     -- what is opened is the noise plus h times the message bit
-    pub opened-noisy : Mod (p .q) (opened p (firstPart p a r) (secondPart p (key p a s e) r m) s j) (residue (p .q) (noise p e r j) + halfModulus p * at m j)
+    pub opened-noisy : Mod (p .q) (opened p (firstPart p a r) (secondPart p (key p a s e) r m) s j) (residue (p .q) (numbersNoise p e r j) + halfModulus p * at m j)
     unfolding opened
     opened-noisy = cancelled (p .q) _ _ _ (omega (arith, kept .prime .above)) second

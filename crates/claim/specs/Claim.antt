@@ -14,7 +14,7 @@ use Rattle.sets.specs.declared.Parameters.{Parameters}
 use Rattle.sets.specs.Derived.{halfModulus}
 use Rattle.numbers.specs.Scheme.{key, firstPart, secondPart, opened, reading}
 use Rattle.numbers.specs.Calls.{isError, isMultiplier, keyAnswer, sealingAnswer, readingAnswer}
-use Rattle.numbers.specs.Noise.{noise}
+use Rattle.numbers.specs.Noise.{numbersNoise}
 
 -- what key and sealing take: the set's lengths, residues, errors, multipliers and message bits
 pub record Inputs (p : Parameters) (a s : List ℕ) (e r : List ℤ) (m : List ℕ) : Type 0 where
@@ -41,7 +41,7 @@ pub record Chain (set : ℕ) (p : Parameters) (a s : List ℕ) (e r : List ℤ) 
 
 -- what is opened at place j is the message bit under the noise, N; the bit is read while 2|N| < h, and the other one while h + 2 < 2|N| < 3h
 pub record Reads (set : ℕ) (p : Parameters) (a s : List ℕ) (e r : List ℤ) (m : List ℕ) (j : ℕ) : Type 0 where
-  pub noisy : Mod (p .q) (opened p (firstPart p a r) (sealedPart p a s e r m) s j) (residue (p .q) (noise p e r j) + halfModulus p * at m j)
-  pub reads : 2 * natAbs (noise p e r j) < halfModulus p → at (reading set p (firstPart p a r) (sealedPart p a s e r m) s) j ≡ at m j
-  pub misreads : halfModulus p + 2 < 2 * natAbs (noise p e r j) → 2 * natAbs (noise p e r j) < 3 * halfModulus p
+  pub noisy : Mod (p .q) (opened p (firstPart p a r) (sealedPart p a s e r m) s j) (residue (p .q) (numbersNoise p e r j) + halfModulus p * at m j)
+  pub reads : 2 * natAbs (numbersNoise p e r j) < halfModulus p → at (reading set p (firstPart p a r) (sealedPart p a s e r m) s) j ≡ at m j
+  pub misreads : halfModulus p + 2 < 2 * natAbs (numbersNoise p e r j) → 2 * natAbs (numbersNoise p e r j) < 3 * halfModulus p
       → at (reading set p (firstPart p a r) (sealedPart p a s e r m) s) j ≡ 1 - at m j

@@ -15,7 +15,7 @@ use lib.Pow.{pow-pos, pow-mono}
 use mir.Syntax.{w32}
 use mir.Val.{SFits, toZ, ofZ}
 use mir.Facts.{toZ-pos, toZ-ofZ}
-use Rattle.maths.proofs.Integer.{positivePart, negativePart, +ℤ-parts, negℤ-parts, natAbs-+ℤ, natAbs-negℤ}
+use Rattle.maths.proofs.Integer.{positivePart, negativePart, equal-by-parts, +ℤ-parts, negℤ-parts, natAbs-+ℤ, natAbs-negℤ}
 use Rattle.draws.specs.Small.{ones, errorOf, multiplierOf}
 
 -- four bits have at most four ones
@@ -119,30 +119,40 @@ module _ (bits : ℕ) (few : bits ≤ 9) where
   pub mask-most : (x : ℕ) → x % 2 ^ bits < 512
   mask-most x = omega (arith, power-most, mod-lt x (pow-pos bits))
 
+-- what holds at 0 and at 1 holds at a bit
+pub by-bit : (P : ℕ → Type 0) → P 0 → P 1 → (bit : ℕ) → bit < 2 → P bit
+by-bit P none one zero h = none
+by-bit P none one (suc zero) h = one
+by-bit P none one (suc (suc n)) h = absurd (omega arith)
+
+-- the difference of two natural numbers, by its parts
+difference : (a b : ℕ) (z : ℤ) → a + negativePart z ≡ positivePart z + b → pos a -ℤ pos b ≡ z
+difference a b z e = equal-by-parts (pos a -ℤ pos b) z (omega (arith, +ℤ-parts (pos a) (negℤ (pos b)), negℤ-parts (pos b)))
+
 -- a multiplier of small size
-module _ (bits number sign size : ℕ) (value : size ≡ number % 2 ^ bits) (small : size < 512) where
-  -- the size as a signed number
-  size-signed : toZ w32 (size + 1) ≡ pos (number % 2 ^ bits + 1)
-  size-signed = rw value (toZ-pos w32 {n = number % 2 ^ bits + 1} (omega arith))
+module _ (bits number sign size : ℕ) (value : size ≡ number % 2 ^ bits) (small : size < 512) (bit : sign < 2) where
+  -- what is subtracted by the sign is small
+  pub doubled-most : 2 * sign * (size + 1) ≤ 512 + (size + 1)
+  doubled-most = by-bit (λ (b : ℕ). 2 * b * (size + 1) ≤ 512 + (size + 1)) (omega arith) (omega arith) sign bit
 
-  -- no sign
-  pub positive-is : (sign ≡ 1 → ⊥) → toZ w32 (size + 1) ≡ multiplierOf bits number sign
+  -- without the 512 the rest is the multiplier
+  lowered : pos (512 + (size + 1) - 2 * sign * (size + 1)) -ℤ pos 512 ≡ multiplierOf bits number sign
   unfolding multiplierOf
-  positive-is h = rw (ne-eqb sign 1 h) size-signed
+  lowered =
+      let one = negℤ-parts (pos (number % 2 ^ bits + 1)) in
+      by-bit (λ (b : ℕ). pos (512 + (size + 1) - 2 * b * (size + 1)) -ℤ pos 512 ≡ multiplierOf bits number b)
+      (difference (512 + (size + 1) - 2 * 0 * (size + 1)) 512 (pos (number % 2 ^ bits + 1)) (omega arith))
+      (difference (512 + (size + 1) - 2 * 1 * (size + 1)) 512 (negℤ (pos (number % 2 ^ bits + 1))) (omega (arith, one)))
+      sign bit
 
-  -- the negative of the size
-  negative : pos 0 -ℤ toZ w32 (size + 1) ≡ negℤ (pos (number % 2 ^ bits + 1))
-  negative = rw size-signed (+ℤ-idl (negℤ (pos (number % 2 ^ bits + 1))))
+  -- as the code has it
+  read-lowered : toZ w32 (512 + (size + 1) - 2 * sign * (size + 1)) -ℤ pos 512 ≡ multiplierOf bits number sign
+  read-lowered = rw (toZ-pos w32 {n = 512 + (size + 1) - 2 * sign * (size + 1)} (omega arith)) lowered
 
   -- it fits
-  negative-small : SFits w32 (negℤ (pos (number % 2 ^ bits + 1)))
-  negative-small = small-fits (rw (natAbs-negℤ (pos (number % 2 ^ bits + 1))) (omega arith))
+  pub multiplier-fits : SFits w32 (toZ w32 (512 + (size + 1) - 2 * sign * (size + 1)) -ℤ pos 512)
+  multiplier-fits = rw read-lowered (small-fits (rw multiplier-size (omega arith)))
 
-  -- so does what the code subtracts
-  pub negative-fits : SFits w32 (pos 0 -ℤ toZ w32 (size + 1))
-  negative-fits = rw negative negative-small
-
-  -- a sign
-  pub negative-is : sign ≡ 1 → toZ w32 (ofZ w32 (pos 0 -ℤ toZ w32 (size + 1))) ≡ multiplierOf bits number sign
-  unfolding multiplierOf
-  negative-is h = rw (eq-eqb sign 1 h, negative) (toZ-ofZ negative-small)
+  -- and is read back
+  pub multiplier-is : toZ w32 (ofZ w32 (toZ w32 (512 + (size + 1) - 2 * sign * (size + 1)) -ℤ pos 512)) ≡ multiplierOf bits number sign
+  multiplier-is = toZ-ofZ multiplier-fits ∙ read-lowered

@@ -4,7 +4,7 @@ use mathlib.Core.Path.{_≡_, refl, sym, ap, _∙_}
 use mathlib.Core.Bool.{Bool, true, false, _&&_, cond}
 use mathlib.Core.List.{List}
 use Prim.Native.Nat.{ℕ, zero, suc, _+_, _*_, _/_, _≤_, _<_}
-use native.Mathlib.Nat.{le-trans, mul-le-mul-left, mul-le-mul-right, add-zero}
+use native.Mathlib.Nat.{mod-lt, le-trans, mul-le-mul-left, mul-le-mul-right, add-zero}
 use native.Mathlib.Omega.{arith}
 use borrow.Author.Count.{below-none, below-more}
 use borrow.Author.Tests.{ltb-true, leb-true, lt-ltb, le-leb}
@@ -17,12 +17,17 @@ use Rattle.calls.proofs.Filled.{Filled, filled-none, filled-more}
 use Rattle.sets.specs.declared.Parameters.{Parameters}
 use Rattle.sets.specs.Rules.{Rules, ByteRules}
 use Rattle.sets.specs.Derived.{multiplierCount, multiplierBytes, multiplierDrawBytes}
-use Rattle.draws.specs.Small.{multiplierBits, signsAt}
+use Rattle.draws.specs.Small.{multiplierBits, signsAt, signBit}
 use Rattle.draws.specs.Calls.{inTurn, lent, lentResults}
 
 -- a position, times the bytes of one size
 pub place-most : (position width : ℕ) → position ≤ 8192 → width ≤ 2 → position * width ≤ 16384
 place-most position width h k = le-trans (mul-le-mul-left position k) (omega arith)
+
+-- a sign bit is 0 or 1
+pub sign-bit-most : (bytes : List ℕ) (signs position : ℕ) → signBit bytes signs position < 2
+unfolding signBit
+sign-bit-most bytes signs position = mod-lt _ (omega arith)
 
 module _ (p : Parameters) (rules : Rules p) where
   -- the first sign byte

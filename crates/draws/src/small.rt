@@ -29,13 +29,13 @@ fn low_bits(x: u32, bits: u32) -> u32
     x & ((1 << bits) - 1)
 }
 
-// The multiplier that a number gives, with the sign bit.
+// The multiplier that a number gives, with the sign bit: its size less sign · twice its size, raised by 512 meanwhile, so that nothing is chosen by the sign.
 fn multiplier_of(bits: u32, number: u32, sign: u32) -> i32
-    requires { ⌜ bits ≤ 9 ⌝ }
+    requires { ⌜ (bits ≤ 9) × (sign < 2) ⌝ }
     ensures { λ r. ⌜ r ≡ multiplierOf bits number sign ⌝ }
 {
-    let size = (low_bits(number, bits) + 1) as i32;
-    if sign == 1 { -size } else { size }
+    let size = low_bits(number, bits) + 1;
+    (512 + size - 2 * sign * size) as i32 - 512
 }
 
 // The number of one or two bytes.

@@ -1,4 +1,3 @@
 pub mod Lane
 pub mod Keccak
 pub mod Rules
-pub mod Known

@@ -1,11 +1,10 @@
 -- What the answers of the draws of a key tell.
 -- Assumes nothing.
 use mathlib.Core.Path.{_≡_, refl, sym}
-use mathlib.Core.Bool.{Bool, true, false, not, _&&_}
-use mathlib.Core.Logic.{inl, inr}
+use mathlib.Core.Bool.{Bool, true, false, not}
 use mathlib.Core.List.{List}
-use Prim.Native.Nat.{ℕ, zero, suc, _<_}
-use native.Mathlib.Nat.{zero-add, eq-or-lt-of-le, le-of-suc-le-suc}
+use Prim.Native.Nat.{ℕ, suc}
+use native.Mathlib.Nat.{zero-add}
 use native.Mathlib.Omega.{arith}
 use Rattle.calls.specs.Outcome.{Outcome, accepted, refused, refuse}
 use Rattle.calls.proofs.Outcome.{accepted-refused}
@@ -13,7 +12,7 @@ use Rattle.sets.specs.declared.Parameters.{Parameters}
 use Rattle.draws.specs.Uniform.{Drawn, taken, ended, exhausted, numbers}
 use Rattle.samplers.specs.Blocks.{uniform, onto, refusal, onwardFrom, uniformAnswer}
 use Rattle.samplers.specs.Seeded.{secretDrawn, secretCounter, publicCounter, publicDrawn}
-use Rattle.scheme.specs.Answers.{isTaken, allTaken}
+use Rattle.scheme.specs.Answers.{isTaken}
 
 -- true is not false
 pub true-false : {b : Bool} → b ≡ true → b ≡ false → ⊥
@@ -28,13 +27,6 @@ pub advanced : (counter next : ℕ) (drawn : Drawn) → onto next ≡ onwardFrom
 advanced counter next (taken xs) e = record { all-taken = refl; next-is = cc }
 advanced counter next (ended xs run) e = absurd (let z : _≡_ {A = ℕ} 0 1 = cc in omega arith)
 advanced counter next (exhausted i) e = absurd (let z : _≡_ {A = ℕ} 0 1 = cc in omega arith)
-
--- a draw that has its numbers
-pub taken-numbers : (drawn : Drawn) → isTaken drawn ≡ true → drawn ≡ taken (numbers drawn)
-unfolding numbers
-taken-numbers (taken xs) e = refl
-taken-numbers (ended xs run) e = absurd (true-false e refl)
-taken-numbers (exhausted i) e = absurd (true-false e refl)
 
 -- a draw that is refused has not its numbers, and is refused with 5
 pub record Stopped (drawn : Drawn) (counter : ℕ) : Type 0 where
@@ -68,20 +60,6 @@ module _ (seed : List ℕ) where
   pub secret-draw : {p r : Parameters} {wanted : ℕ} → r ≡ p → wanted ≡ p .d3 → uniform r seed (r .bytpcs) 0 wanted ≡ secretDrawn p seed
   unfolding secretDrawn
   secret-draw e w = rw (e, w)
-
--- one draw that is refused among t
-pub one-refused : (t i : ℕ) (draw : ℕ → Drawn) → i < t → isTaken (draw i) ≡ false → allTaken t draw ≡ false
-unfolding allTaken
-one-refused zero i draw h e = absurd (omega arith)
-one-refused (suc t) i draw h e =
-    elim (eq-or-lt-of-le (le-of-suc-le-suc h)) [
-      | inl last ↦ and-right (allTaken t draw) (rw last at e)
-      | inr before ↦ rw (one-refused t i draw before e)
-    ]
-  where
-    and-right : (a : Bool) {b : Bool} → b ≡ false → (a && b) ≡ false
-    and-right true f = f
-    and-right false f = refl
 
 -- a check of a draw
 pub refuse-not-taken : {b : Bool} (after : Outcome) → b ≡ false → refuse (not b) 5 0 after ≡ refused 5 0

@@ -31,9 +31,10 @@ use Rattle.samplers.specs.Blocks.{uniform, drawnFrom}
 use Rattle.scheme.specs.Encryption.{keyVector, publicPolynomial}
 use Rattle.scheme.specs.Answers.{isTaken, allTaken}
 use Rattle.keying.specs.Held.{vectorsStart, Held, sums, heldVector, storedVector}
-use Rattle.keying.proofs.Room.{first-size, third-size, vectors-room, errors-room, secret-room}
+use Rattle.sets.proofs.Transforms.{first-size, third-size}
+use Rattle.keying.proofs.Room.{vectors-room, errors-room, secret-room}
 use Rattle.keying.proofs.Sums.{sums-length}
-use Rattle.keying.proofs.Parts.{front, region-before}
+use Rattle.calls.proofs.Parts.{front, region-before}
 
 module _ (set : ℕ) (some : 1 ≤ set) (low : set < 13) where
   -- the secret that is held may be correlated with

@@ -6,20 +6,12 @@ use native.Mathlib.Nat.{mul-le-mul-left}
 use native.Mathlib.Omega.{arith}
 use Rattle.sets.specs.declared.Parameters.{Parameters}
 use Rattle.sets.specs.Table.{setOf}
-use Rattle.sets.specs.Derived.{transformSize, errorDrawBytes, publicKeyBytes}
+use Rattle.sets.specs.Derived.{errorDrawBytes, publicKeyBytes}
 use Rattle.sets.specs.Rules.{ByteRules}
 use Rattle.sets.proofs.Rules.{rules, byteRules}
-use Rattle.sets.proofs.Transforms.{size-first, size-third}
 use Rattle.samplers.specs.Seeded.{errorCount}
 use Rattle.scheme.specs.Answers.{workLength}
 use Rattle.keying.specs.Held.{vectorsStart}
-
--- the first transform and the third
-pub first-size : (p : Parameters) → transformSize p 1 ≡ p .d1
-first-size p = size-first p 1 refl
-
-pub third-size : (p : Parameters) → transformSize p 3 ≡ p .d3
-third-size p = size-third p 3 (λ e. omega arith) (λ e. omega arith)
 
 -- there are few errors
 pub errors-most : (p : Parameters) → ByteRules p → p .t * (p .d + p .k) ≤ 10240

@@ -32,9 +32,10 @@ use Rattle.transformed.proofs.Vectors.{sentInverse-placed}
 use Rattle.scheme.specs.Encryption.{secretSeed, publicSeed, storedSecret, secret, errors, residueVector, publicVector, publicKey}
 use Rattle.scheme.specs.Answers.{isTaken, allTaken, keyDraws, workLength}
 use Rattle.keying.specs.Held.{vectorsStart, Held, SecretHeld, heldVector, storedVector}
-use Rattle.keying.proofs.Room.{first-size, vectors-room, secret-room, errors-room}
-use Rattle.keying.proofs.Drawn.{taken-numbers}
-use Rattle.keying.proofs.Parts.{region-before, joined-cong}
+use Rattle.sets.proofs.Transforms.{first-size}
+use Rattle.keying.proofs.Room.{vectors-room, secret-room, errors-room}
+use Rattle.scheme.proofs.Taken.{taken-numbers}
+use Rattle.calls.proofs.Parts.{region-before, joined-cong}
 use Rattle.keying.proofs.KeyVectors.{some-modulus}
 
 -- the residue at a place of a list of whole numbers

@@ -1,12 +1,13 @@
 -- Laws of products of polynomials: the middle product as a correlation and by transforms, and associativity.
 -- Assumes nothing.
-use mathlib.Core.Path.{_≡_, sym, _∙_}
+use mathlib.Core.Path.{_≡_, sym, ap, _∙_}
 use mathlib.Core.List.{List}
 use Prim.Native.Nat.{ℕ, suc, _+_, _-_, _*_, _%_, _≤_, _<_}
 use native.Mathlib.Nat.{zero-mul, mul-zero, mul-assoc, mul-comm, zero-add}
 use native.Mathlib.Decide.{decLe}
 use native.Mathlib.Omega.{arith}
-use lib.ListN.{length, getD}
+use lib.ListN.{length, getD, take}
+use lib.Seq.{getD-take}
 use Rattle.maths.specs.Vector.{at, tabulate}
 use Rattle.maths.specs.Sum.{sum}
 use Rattle.maths.specs.Congruence.{Mod}
@@ -138,3 +139,8 @@ middle-assoc q r a s c d some-r some-a size same =
     let outer : Mod q (product r inner (length r - 1 + i)) (correlation (length r) (at r) (correlation (length a) (at a) z) 0) = rw (product-backwards r inner i some-r) (correlation-mod (length r) _ _ _ _ 0 (λ j l. mod-refl _) (λ j l. middle-place q (d + length r - 1) a s (length c - 1 + i) (length r - 1 + i - (0 + j)) (0 + j) some-a (omega arith) (omega arith))) in
     let whole : Mod q (correlation (length c) (product r a) z 0) (product c s (length c - 1 + i)) = rw (product-backwards c s i (omega arith)) (correlation-mod (length c) _ _ z z 0 (λ p l. mod-sym (same p l)) (λ j l. mod-refl _)) in
     mod-trans outer (mod-trans (mod-eq (list-correlation-assoc r a z 0)) (rw (← size) whole)) .same)
+
+-- a correlation reads only the first places of the second vector
+pub correlation-front : (n m j : ℕ) (x : ℕ → ℕ) (ys : List ℕ) → j + n ≤ m → correlation n x (at ys) j ≡ correlation n x (at (take m ys)) j
+unfolding correlation
+correlation-front n m j x ys fits = sum-cong n _ _ (λ l h. ap (λ (y : ℕ). x l * y) (sym (getD-take m ys (j + l) 0 (omega arith))))

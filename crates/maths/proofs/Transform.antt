@@ -220,3 +220,12 @@ send-products q ρ δ w count x y z fits same k h =
     let value : (xs : List ℕ) → Mod q (at (send q ρ δ w xs) k) (transformAt (δ * ρ) w (at xs) i) = λ xs. rw (send-at q ρ δ w xs k h) (mod-remainder q _) in
     let term : (t : ℕ) → t < count → Mod q (at (send q ρ δ w (x t)) k * at (send q ρ δ w (y t)) k) (transformAt (δ * ρ) w (product (x t) (y t)) i) = λ t l. mod-trans (mod-mul (value (x t)) (value (y t))) (mod-eq (sym (transform-product (δ * ρ) w (length (x t)) (length (y t)) (at (x t)) (at (y t)) i (fits t l) (at-past (x t)) (at-past (y t))))) in
     mod-trans (mod-sum count _ _ term) (mod-sym (mod-trans (value z) (mod-trans (transform-mod (δ * ρ) w _ _ i same) (mod-eq (transform-sum (δ * ρ) w count (λ t. product (x t) (y t)) i)))))
+
+-- stored vectors that are congruent place by place recover alike
+pub recover-mod : (q ρ δ w e m : ℕ) (xs ys : List ℕ) → m ≤ δ * ρ → ((j : ℕ) → Mod q (at xs j) (at ys j)) → recover q ρ δ w e m xs ≡ recover q ρ δ w e m ys
+recover-mod q ρ δ w e m xs ys fits same =
+    equal-by-place m _ _ (recover-length q ρ δ w e m xs) (recover-length q ρ δ w e m ys)
+    (λ j h.
+    recover-at q ρ δ w e m xs j h (omega arith)
+    ∙ mod-mul (mod-refl e) (transform-mod (δ * ρ) w _ _ j (λ l k. rw (invPerm-at ρ δ xs l k, invPerm-at ρ δ ys l k) (same _))) .same
+    ∙ sym (recover-at q ρ δ w e m ys j h (omega arith)))

@@ -13,8 +13,8 @@ use Rattle.calls.specs.Region.{vector}
 unfoldable pub productℤ : List ℤ → List ℤ → ℕ → ℤ
 productℤ x y l = sumℤ (suc l) (λ j. getD x j (pos 0) *ℤ getD y (l - j) (pos 0))
 
-unfoldable pub noise : Parameters → List ℤ → List ℤ → ℕ → ℤ
-noise p e r j = sumℤ (p .t) (λ i. productℤ (vector (p .k + 1) r i) (vector (p .d + p .k) e i) (p .k + j))
+unfoldable pub numbersNoise : Parameters → List ℤ → List ℤ → ℕ → ℤ
+numbersNoise p e r j = sumℤ (p .t) (λ i. productℤ (vector (p .k + 1) r i) (vector (p .d + p .k) e i) (p .k + j))
 
 -- noise 12 is not noise −5, though both have the same residue modulo 17: it is not reduced before its size is judged
 productℤ-example : productℤ (pos 3 ∷ []) (pos 4 ∷ []) 0 ≡ pos 12

@@ -14,20 +14,6 @@ fn floor_bit(h: u32, w: u32) -> u32
     (2 * w + h) / (2 * h) % 2
 }
 
-// 003's Round for an even h: 1 from h / 2 to 3h / 2, else 0.
-fn threshold_bit(h: u32, w: u32) -> u32
-    requires { ⌜ (h < 2 ^ 24) × (w < 2 ^ 24) ⌝ }
-    ensures { λ r. ⌜ r ≡ thresholdBit h w ⌝ }
-{
-    if 2 * w < h {
-        return 0;
-    }
-    if 3 * h < 2 * w {
-        return 0;
-    }
-    1
-}
-
 // The bit that a set reads a residue as.
 pub fn bit_read(set: usize, w: u32) -> u32
     requires { ⌜ (set < 13) × (w < setOf set .q) ⌝ }
@@ -37,5 +23,5 @@ pub fn bit_read(set: usize, w: u32) -> u32
     if set == 0 {
         return floor_bit(h, w);
     }
-    threshold_bit(h, w)
+    residues::threshold_bit(h, w)
 }

@@ -1,19 +1,18 @@
 -- The correlations of c1' with the secret, as the transforms give them.
 -- Assumes nothing.
-use mathlib.Core.Path.{_≡_, sym, ap, _∙_}
+use mathlib.Core.Path.{_≡_, ap, _∙_}
 use mathlib.Core.List.{List, _++_}
-use Prim.Native.Nat.{ℕ, _+_, _-_, _*_, _%_, _≤_, _<_}
+use Prim.Native.Nat.{ℕ, _+_, _-_, _%_, _≤_, _<_}
 use native.Mathlib.Nat.{sub-zero, mod-lt}
 use native.Mathlib.Decide.{decLt}
 use native.Mathlib.Omega.{arith}
 use borrow.Author.Tests.{lt-ltb, le-ltb, lt-leb, le-leb}
 use lib.Dec.{leb}
 use lib.ListN.{length, take, drop}
-use lib.Seq.{take-append-le, getD-take}
+use lib.Seq.{getD-take}
 use Rattle.maths.specs.Vector.{at}
 use Rattle.maths.specs.Product.{correlation}
 use Rattle.maths.proofs.Vector.{tabulate-at, tabulate-cong}
-use Rattle.maths.proofs.Sum.{sum-cong}
 use Rattle.maths.proofs.Transform.{recover-length}
 use Rattle.calls.specs.Checks.{passing, below}
 use Rattle.calls.specs.Region.{over}
@@ -23,7 +22,7 @@ use Rattle.sets.specs.declared.Parameters.{Parameters}
 use Rattle.sets.specs.Table.{setOf}
 use Rattle.sets.specs.Derived.{transformSize}
 use Rattle.sets.proofs.Rules.{rules}
-use Rattle.sets.proofs.Transforms.{size-second, size-third}
+use Rattle.sets.proofs.Transforms.{third-size, second-size}
 use Rattle.packing.specs.Digits.{unpack}
 use Rattle.packing.proofs.Digits.{unpack-length}
 use Rattle.transformed.specs.Stored.{recovered, recoveredInverse, correlations}
@@ -33,18 +32,8 @@ use Rattle.transformed.proofs.Vectors.{recoveredInverse-placed}
 use Rattle.scheme.specs.Encryption.{firstBytes, cipherFirst}
 use Rattle.scheme.specs.Answers.{allBelow}
 use Rattle.opening.specs.Opened.{firstCorrelations}
-
--- the sizes of the second and of the third transform
-pub second-size : (p : Parameters) → transformSize p 2 ≡ p .d2
-second-size p = size-second p 2 (omega arith)
-
-pub third-size : (p : Parameters) → transformSize p 3 ≡ p .d3
-third-size p = size-third p 3 (λ e. omega arith) (λ e. omega arith)
-
--- the front of a list that was written over
-front : (xs ys : List ℕ) (n : ℕ) → n ≤ length ys → take n (over xs 0 ys) ≡ take n ys
-unfolding over
-front xs ys n h = take-append-le n ys _ h
+use Rattle.maths.proofs.Product.{correlation-front}
+use Rattle.calls.proofs.Parts.{front-first}
 
 -- the test that the code makes of the first number that fails
 pub below-test : (q n i : ℕ) (xs : List ℕ) → length xs ≡ n → i ≡ passing (below q) 0 xs → leb n i ≡ allBelow q xs
@@ -55,11 +44,6 @@ below-test q n i xs size e =
       | yes fails ↦ rw (lt-ltb i n fails, lt-leb n i fails)
       | no passes ↦ let all : n ≤ i = omega arith in rw (le-ltb i n all, le-leb n i all)
     ])
-
--- a correlation reads only the first places of the second vector
-correlation-front : (n m j : ℕ) (x : ℕ → ℕ) (ys : List ℕ) → j + n ≤ m → correlation n x (at ys) j ≡ correlation n x (at (take m ys)) j
-unfolding correlation
-correlation-front n m j x ys fits = sum-cong n _ _ (λ l h. ap (λ (y : ℕ). x l * y) (sym (getD-take m ys (j + l) 0 (omega arith))))
 
 module _ (p : Parameters) (stored ct : List ℕ) where
   -- each correlation is a residue
@@ -102,7 +86,7 @@ module _ (set : ℕ) (low : set < 13) (x ct : List ℕ) (size : length x ≡ tra
 
   -- the buffer begins with c1'
   buffer-front : take (setOf set .n + setOf set .k) (over x 0 first) ≡ recoveredInverse (setOf set) 2 (setOf set .n + setOf set .k) (cipherFirst (setOf set) ct)
-  buffer-front = front x first (setOf set .n + setOf set .k) (rw first-length few) ∙ recoveredInverse-take set 2 (setOf set .n + setOf set .k) (cipherFirst (setOf set) ct) few
+  buffer-front = front-first x first (setOf set .n + setOf set .k) (rw first-length few) ∙ recoveredInverse-take set 2 (setOf set .n + setOf set .k) (cipherFirst (setOf set) ct) few
 
   -- so c1' may be sent
   pub buffer-placed : Placed (setOf set) 3 (setOf set .n + setOf set .k) (over x 0 first)
@@ -112,7 +96,7 @@ module _ (set : ℕ) (low : set < 13) (x ct : List ℕ) (size : length x ≡ tra
         size = over-length x 0 first (omega (arith, first-length, room, second-size (setOf set))) ∙ size;
         inside = omega (arith, few, room, second-size (setOf set), size);
         residues = record {
-          each = λ j h. rw (← getD-take (setOf set .n + setOf set .k) (over x 0 first) j 0 h, front x first (setOf set .n + setOf set .k) (rw first-length few), getD-take (setOf set .n + setOf set .k) first j 0 h) (recoveredInverse-placed set low 2 (cipherFirst (setOf set) ct) .residues .each j (omega (arith, few)));
+          each = λ j h. rw (← getD-take (setOf set .n + setOf set .k) (over x 0 first) j 0 h, front-first x first (setOf set .n + setOf set .k) (rw first-length few), getD-take (setOf set .n + setOf set .k) first j 0 h) (recoveredInverse-placed set low 2 (cipherFirst (setOf set) ct) .residues .each j (omega (arith, few)));
         };
       }
 

@@ -2,18 +2,16 @@
 -- Assumes nothing.
 use mathlib.Core.Path.{_≡_, sym, _∙_}
 use mathlib.Core.List.{List}
-use Prim.Native.Nat.{ℕ, _*_, _%_, _≤_, _<_}
+use Prim.Native.Nat.{ℕ, _%_, _<_}
 use native.Mathlib.Nat.{mod-lt}
 use native.Mathlib.Decide.{decLt}
 use native.Mathlib.Omega.{arith}
 use lib.ListN.{length, length-map}
 use Rattle.maths.specs.Vector.{at}
 use Rattle.maths.specs.Congruence.{Mod}
-use Rattle.maths.specs.Transform.{recover}
-use Rattle.maths.proofs.Vector.{at-past, equal-by-place, map-at}
-use Rattle.maths.proofs.Congruence.{mod-refl, mod-eq, mod-remainder, mod-mul}
-use Rattle.maths.proofs.Convolution.{transform-mod}
-use Rattle.maths.proofs.Transform.{invPerm-at, recover-length, recover-at}
+use Rattle.maths.proofs.Vector.{at-past, map-at}
+use Rattle.maths.proofs.Congruence.{mod-eq, mod-remainder}
+use Rattle.maths.proofs.Transform.{recover-mod}
 use Rattle.transforms.specs.Ready.{AllBelow}
 use Rattle.sets.specs.Table.{setOf}
 use Rattle.sets.specs.Derived.{transformSize}
@@ -44,15 +42,6 @@ module _ (q : ℕ) (xs : List ℕ) where
         | yes inside ↦ rw (reduced-at j inside) (mod-remainder q _)
         | no past ↦ mod-eq (at-past (reduced q xs) j (omega (arith, reduced-length)) ∙ sym (at-past xs j (omega arith)))
       ]
-
--- stored vectors that are congruent place by place recover alike
-recover-mod : (q ρ δ w e m : ℕ) (xs ys : List ℕ) → m ≤ δ * ρ → ((j : ℕ) → Mod q (at xs j) (at ys j)) → recover q ρ δ w e m xs ≡ recover q ρ δ w e m ys
-recover-mod q ρ δ w e m xs ys fits same =
-    equal-by-place m _ _ (recover-length q ρ δ w e m xs) (recover-length q ρ δ w e m ys)
-    (λ j h.
-    recover-at q ρ δ w e m xs j h (omega arith)
-    ∙ mod-mul (mod-refl e) (transform-mod (δ * ρ) w _ _ j (λ l k. rw (invPerm-at ρ δ xs l k, invPerm-at ρ δ ys l k) (same _))) .same
-    ∙ sym (recover-at q ρ δ w e m ys j h (omega arith)))
 
 -- numbers of q or more count modulo q
 pub recoveredInverse-reduced : (set : ℕ) → set < 13 → (i : ℕ) (xs : List ℕ)

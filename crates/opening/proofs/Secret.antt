@@ -17,7 +17,7 @@ use Rattle.transformed.specs.Placed.{Placed}
 use Rattle.transformed.proofs.Sizes.{some-modulus}
 use Rattle.scheme.specs.Encryption.{storedSecret}
 use Rattle.scheme.specs.Answers.{isTaken, secretDraw}
-use Rattle.opening.proofs.First.{third-size}
+use Rattle.sets.proofs.Transforms.{third-size}
 
 -- a draw without all its numbers
 not-taken : (drawn : Drawn) → ((xs : List ℕ) → drawn ≡ taken xs → ⊥) → isTaken drawn ≡ false

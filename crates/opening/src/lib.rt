@@ -68,27 +68,13 @@ fn correlate_first(set: usize, ciphertext: &[u8], stored: &[u32], powers: &mut [
     transformed::correlate(set, 3, powers, x, p.n + p.k, stored);
 }
 
-// 003's Round for an even h: 1 from h / 2 to 3h / 2, else 0.
-fn threshold_bit(h: u32, w: u32) -> u32
-    requires { ⌜ (h < 2 ^ 24) × (w < 2 ^ 24) ⌝ }
-    ensures { λ r. ⌜ r ≡ thresholdBit h w ⌝ }
-{
-    if 2 * w < h {
-        return 0;
-    }
-    if 3 * h < 2 * w {
-        return 0;
-    }
-    1
-}
-
 // The bit that a number of c2 is read as, given the correlation at its place.
 fn difference_bit(p: Parameters, x: u32, y: u32) -> u32
     requires { ⌜ Rules p × ByteRules p × (y < p .q) ⌝ }
     ensures { λ r. ⌜ r ≡ differenceBit p x y ⌝ }
 {
     let h = sets::derived::half_modulus(p);
-    threshold_bit(h, residues::subtract(x % p.q, y, p.q))
+    residues::threshold_bit(h, residues::subtract(x % p.q, y, p.q))
 }
 
 // Reads each number of c2 as a bit, given the correlations.

@@ -86,73 +86,49 @@ pub fn number_sum(values: &[u32]) {
     number(sum);
 }
 
-// The size of a signed number; a size above 1,000, which no error and no multiplier has, counts as 0.
-fn size_of(x: i32) -> u32 {
+// A signed number raised by 2^24, so that it has no sign; one of a size above 1,000, which no error and no multiplier has, counts as 0.
+fn raised(x: i32) -> u64
+    ensures { λ r. ⌜ r < 4294967296 ⌝ }
+{
     if 1000 < x {
         return 0;
     }
     if x < -1000 {
         return 0;
     }
-    if x < 0 { (0 - x) as u32 } else { x as u32 }
+    (x + 16777216) as u64
 }
 
-// 1 for a negative number, else 0.
-fn sign_of(x: i32) -> u64
-    ensures { λ r. ⌜ r < 2 ⌝ }
-{
-    if x < 0 { 1 } else { 0 }
-}
-
-// Prints a space and the checksum of the signs and sizes of signed numbers.
+// Prints a space and the checksum of signed numbers.
 pub fn signed_sum(values: &[i32]) {
     let mut sum: u64 = 0;
     let mut i: usize = 0;
     while i < values.len() {
-        let x = values[i];
-        sum = mixed(mixed(sum, sign_of(x)), wider(size_of(x)));
+        sum = mixed(sum, raised(values[i]));
         i += 1;
     }
     number(sum);
 }
 
 // Fills bytes with a pattern: none of them is above 198, so that three of them are never a candidate that a draw sets aside.
-pub fn fill_bytes(values: &mut [u8], start: usize)
-    requires { ⌜ (start ≤ 1000) × (length (now values) ≤ 1000000) ⌝ }
-{
+pub fn fill_bytes(values: &mut [u8], start: usize) {
     let mut i: usize = 0;
     while i < values.len() {
-        values[i] = ((start + 13 * i) % 199) as u8;
+        values[i] = ((start % 199 + 13 * (i % 199)) % 199) as u8;
         i += 1;
     }
 }
 
 // Makes `count` candidates from number `first` on such that a draw sets them aside.
-pub fn set_aside(bytes: &mut [u8], first: usize, count: usize)
-    requires { ⌜ (first ≤ 1000) × (count ≤ 1000) × (3 * (first + count) ≤ length (now bytes)) ⌝ }
-{
-    let end = 3 * (first + count);
-    let mut i = 3 * first;
-    while i < end {
+pub fn set_aside(bytes: &mut [u8], first: usize, count: usize) {
+    fill_ones(part_mut(bytes, 3 * (first % 1024), 3 * (count % 1024)));
+}
+
+// Fills bytes with 255.
+fn fill_ones(bytes: &mut [u8]) {
+    let mut i: usize = 0;
+    while i < bytes.len() {
         bytes[i] = 255;
-        i += 1;
-    }
-}
-
-// Fills numbers with 7, which shows where a call wrote nothing.
-pub fn fill_numbers(values: &mut [u32]) {
-    let mut i: usize = 0;
-    while i < values.len() {
-        values[i] = 7;
-        i += 1;
-    }
-}
-
-// The same for signed numbers.
-pub fn fill_signed(values: &mut [i32]) {
-    let mut i: usize = 0;
-    while i < values.len() {
-        values[i] = 7;
         i += 1;
     }
 }
@@ -189,17 +165,18 @@ pub fn at_most(x: usize, limit: usize) -> usize
 
 // A length, or one more or one less where it is the one to change: 1 and 2 are one more and one less of the first slice, 3 and 4 of the
 // second, and so on.
-pub fn changed(length: usize, slice: usize, change: usize) -> usize
-    requires { ⌜ (length ≤ 30000) × (slice ≤ 10) ⌝ }
-    ensures { λ r. ⌜ r ≤ length + 1 ⌝ }
-{
-    if change == 2 * slice + 1 {
-        return length + 1;
+pub fn changed(length: usize, slice: usize, change: usize) -> usize {
+    if change == 0 {
+        return length;
     }
-    if change == 2 * slice + 2 && 0 < length {
-        return length - 1;
+    if (change - 1) / 2 != slice {
+        return length;
     }
-    length
+    if change % 2 == 1 {
+        if length < 1000000 { length + 1 } else { length }
+    } else {
+        if 0 < length { length - 1 } else { length }
+    }
 }
 
 // Prints the name of a call, its set, and which length was changed.
@@ -215,13 +192,88 @@ fn low_byte(x: usize) -> u8 {
 }
 
 // Puts the lowest 24 bits of a number into three bytes, least significant first: a number packed there is then that number.
-pub fn put_number(bytes: &mut [u8], place: usize, value: usize)
-    requires { ⌜ place + 3 ≤ length (now bytes) ⌝ }
+pub fn put_number(bytes: &mut [u8], place: usize, value: usize) {
+    put_byte(bytes, place, low_byte(value));
+    put_byte(
+        part_mut(bytes, 1, bytes.len()),
+        place,
+        low_byte(value / 256),
+    );
+    put_byte(
+        part_mut(bytes, 2, bytes.len()),
+        place,
+        low_byte(value / 65536),
+    );
+}
+
+// Puts a byte at a place that the slice has.
+pub fn put_byte(bytes: &mut [u8], place: usize, value: u8) {
+    if place < bytes.len() {
+        bytes[place] = value;
+    }
+}
+
+// The byte at a place, or 0 past the end.
+pub fn byte_at(bytes: &[u8], place: usize) -> u8 {
+    if place < bytes.len() { bytes[place] } else { 0 }
+}
+
+// Where a part of n entries from a place on ends, in a slice of this length; a part that does not fit ends with the slice.
+fn part_end(length: usize, from: usize, n: usize) -> usize
+    requires { ⌜ from ≤ length ⌝ }
+    ensures { λ r. ⌜ (from ≤ r) × (r ≤ length) ⌝ }
 {
-    let low = low_byte(value);
-    let middle = low_byte(value / 256);
-    let high = low_byte(value / 65536);
-    bytes[place] = low;
-    bytes[place + 1] = middle;
-    bytes[place + 2] = high;
+    if n < length - from { from + n } else { length }
+}
+
+// The n bytes from a place on, or as many as there are: so a program needs no proof of lengths.
+pub fn part(bytes: &[u8], from: usize, n: usize) -> &[u8] {
+    let start = at_most(from, bytes.len());
+    let end = part_end(bytes.len(), start, n);
+    &bytes[start..end]
+}
+
+// The same of bytes to be written.
+pub fn part_mut(bytes: &mut [u8], from: usize, n: usize) -> &mut [u8] {
+    let start = at_most(from, bytes.len());
+    let end = part_end(bytes.len(), start, n);
+    &mut bytes[start..end]
+}
+
+// The first n bytes, or as many as there are.
+pub fn front(bytes: &[u8], n: usize) -> &[u8] {
+    part(bytes, 0, n)
+}
+
+// The same of bytes to be written.
+pub fn front_mut(bytes: &mut [u8], n: usize) -> &mut [u8] {
+    part_mut(bytes, 0, n)
+}
+
+// The n numbers from a place on, or as many as there are.
+pub fn numbers(values: &[u32], from: usize, n: usize) -> &[u32] {
+    let start = at_most(from, values.len());
+    let end = part_end(values.len(), start, n);
+    &values[start..end]
+}
+
+// The same of numbers to be written.
+pub fn numbers_mut(values: &mut [u32], from: usize, n: usize) -> &mut [u32] {
+    let start = at_most(from, values.len());
+    let end = part_end(values.len(), start, n);
+    &mut values[start..end]
+}
+
+// The same of signed numbers.
+pub fn signed(values: &[i32], from: usize, n: usize) -> &[i32] {
+    let start = at_most(from, values.len());
+    let end = part_end(values.len(), start, n);
+    &values[start..end]
+}
+
+// The same of signed numbers to be written.
+pub fn signed_mut(values: &mut [i32], from: usize, n: usize) -> &mut [i32] {
+    let start = at_most(from, values.len());
+    let end = part_end(values.len(), start, n);
+    &mut values[start..end]
 }

@@ -1,16 +1,25 @@
-// Arithmetic modulo any q below 2^24: the one place where a number is reduced.
+// Arithmetic modulo any q below 2^24: the one place where a number is reduced, and the rounding of a residue to a bit.
 ghost use mathlib.Core.Path.{_≡_};
 ghost use Prim.Native.Nat.{_+_, _-_, _*_, _/_, _%_, _^_, _≤_, _<_};
-ghost use lib.IntN.{natAbs};
+ghost use lib.IntN.{pos, _+ℤ_, natAbs};
 ghost use Rattle.maths.specs.Integer.{residue};
+ghost use Rattle.maths.specs.Rounding.{thresholdBit};
 
-// The sum of two residues: a comparison and a subtraction, with no division.
+// The remainder of a number below 2 · q. Its quotient, 0 or 1, is what x + (2^25 − q) carries to 2^25: in its place, a comparison would become a
+// jump in some loops, whose time tells x.
+fn reduce_once(x: u32, q: u32) -> u32
+    requires { ⌜ (x < 2 * q) × (q < 2 ^ 24) ⌝ }
+    ensures { λ r. ⌜ r ≡ x % q ⌝ }
+{
+    x - (x + (33554432 - q)) / 33554432 * q
+}
+
+// The sum of two residues.
 pub fn add(a: u32, b: u32, q: u32) -> u32
     requires { ⌜ (a < q) × (b < q) × (q < 2 ^ 24) ⌝ }
     ensures { λ r. ⌜ r ≡ (a + b) % q ⌝ }
 {
-    let sum = a + b;
-    if sum >= q { sum - q } else { sum }
+    reduce_once(a + b, q)
 }
 
 // The difference of two residues.
@@ -18,7 +27,7 @@ pub fn subtract(a: u32, b: u32, q: u32) -> u32
     requires { ⌜ (a < q) × (b < q) × (q < 2 ^ 24) ⌝ }
     ensures { λ r. ⌜ r ≡ (a + (q - b)) % q ⌝ }
 {
-    if a >= b { a - b } else { a + (q - b) }
+    reduce_once(a + (q - b), q)
 }
 
 // The reciprocal of q, scaled by 2^48: a division of public numbers alone.
@@ -118,28 +127,32 @@ pub fn multiply(a: u32, b: u32, q: u32) -> u32
     reduce_product(product(a, b), q)
 }
 
-// The size of a number with a sign.
-fn size_of(z: i32) -> u32
+// A small number with a sign, raised by 2^24 so that it has none.
+fn raised(z: i32) -> u32
     requires { ⌜ natAbs z < 2 ^ 24 ⌝ }
-    ensures { λ r. ⌜ r ≡ natAbs z ⌝ }
+    ensures { λ r. ⌜ pos r ≡ z +ℤ pos (2 ^ 24) ⌝ }
 {
-    if z < 0 { (0 - z) as u32 } else { z as u32 }
+    (z + 16777216) as u32
 }
 
-// The residue of −size, for a size below q.
-fn of_negated(size: u32, q: u32) -> u32
-    requires { ⌜ size < q ⌝ }
-    ensures { λ r. ⌜ r ≡ (q - size) % q ⌝ }
-{
-    if size == 0 { 0 } else { q - size }
-}
-
-// The residue of a whole number with a sign: that of its size and the opposite one are both worked out, and one is chosen.
+// The residue of a whole number with a sign: that of z + 2^24 · q, which is never negative, so that nothing is chosen by the sign.
 pub fn of_signed(z: i32, q: u32) -> u32
     requires { ⌜ (0 < q) × (q < 2 ^ 24) × (natAbs z < 2 ^ 24) ⌝ }
     ensures { λ r. ⌜ r ≡ residue q z ⌝ }
 {
-    let size = reduce_product(size_of(z) as u64, q);
-    let negated = of_negated(size, q);
-    if z < 0 { negated } else { size }
+    reduce_product(raised(z) as u64 + (q as u64 - 1) * 16777216, q)
+}
+
+// 003's Round for an even h: 1 from h / 2 to 3h / 2, else 0.
+pub fn threshold_bit(h: u32, w: u32) -> u32
+    requires { ⌜ (h < 2 ^ 24) × (w < 2 ^ 24) ⌝ }
+    ensures { λ r. ⌜ r ≡ thresholdBit h w ⌝ }
+{
+    if 2 * w < h {
+        return 0;
+    }
+    if 3 * h < 2 * w {
+        return 0;
+    }
+    1
 }

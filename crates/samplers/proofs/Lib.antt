@@ -1,5 +1,4 @@
 pub mod Continuing
-pub mod Part
 pub mod Uniform
 pub mod Drawing
 pub mod Values

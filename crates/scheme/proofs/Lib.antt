@@ -6,3 +6,4 @@ pub mod Noise
 pub mod Claim
 pub mod Exchange
 pub mod Answers
+pub mod Taken

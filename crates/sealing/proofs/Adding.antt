@@ -1,11 +1,10 @@
 -- The first part of a ciphertext: one public polynomial drawn and sent, the products added up over all polynomials, and what they stand for.
 -- Assumes nothing.
 use mathlib.Core.Path.{_≡_, refl, sym, ap, subst, _∙_}
-use mathlib.Core.Bool.{Bool, true, false, _&&_}
-use mathlib.Core.Logic.{inl, inr}
+use mathlib.Core.Bool.{true, false}
 use mathlib.Core.List.{List, _++_}
-use Prim.Native.Nat.{ℕ, zero, suc, _+_, _-_, _*_, _^_, _≤_, _<_}
-use native.Mathlib.Nat.{eq-or-lt-of-le, le-of-suc-le-suc, mul-le-mul-left}
+use Prim.Native.Nat.{ℕ, _+_, _-_, _*_, _^_, _≤_, _<_}
+use native.Mathlib.Nat.{mul-le-mul-left}
 use native.Mathlib.Numerals.{add-one}
 use native.Mathlib.Omega.{arith}
 use lib.ListN.{length, take, drop, replicate}
@@ -16,9 +15,9 @@ use Rattle.transforms.specs.Ready.{AllBelow}
 use Rattle.sets.specs.declared.Parameters.{Parameters}
 use Rattle.sets.specs.Table.{setOf}
 use Rattle.sets.specs.Derived.{transformSize}
-use Rattle.sets.proofs.Rules.{rules}
+use Rattle.sets.proofs.Rules.{rules, rules-of}
 use Rattle.packing.specs.Digits.{Digit, pack}
-use Rattle.draws.specs.Uniform.{Drawn, taken, ended, exhausted, numbers}
+use Rattle.draws.specs.Uniform.{taken, numbers}
 use Rattle.samplers.specs.Blocks.{uniform, onto, refusal, uniformAnswer}
 use Rattle.samplers.specs.Seeded.{publicCounter, publicDrawn}
 use Rattle.samplers.proofs.Uniform.{uniform-length, uniform-below}
@@ -30,62 +29,12 @@ use Rattle.transformed.proofs.Vectors.{Stored, sent-placed, addends}
 use Rattle.transformed.proofs.Sums.{totals-none, totals-more, totals-placed, totals-sent}
 use Rattle.scheme.specs.Answers.{isTaken, allTaken}
 use Rattle.scheme.specs.Encryption.{publicPolynomial, firstNumbers, firstBytes}
-use Rattle.sealing.specs.Parts.{Multipliers, firstPart}
-use Rattle.sealing.proofs.Multiplied.{second-size, front, front-placed, residue-digits, rules-of, vector-room}
-
--- a draw without its numbers is not taken
-not-taken : (drawn : Drawn) → ((xs : List ℕ) → drawn ≡ taken xs → ⊥) → isTaken drawn ≡ false
-not-taken (taken xs) h = absurd (h xs refl)
-not-taken (ended xs run) h = refl
-not-taken (exhausted i) h = refl
-
--- a draw that is taken has numbers
-has-numbers : (drawn : Drawn) → isTaken drawn ≡ true → drawn ≡ taken (numbers drawn)
-unfolding numbers
-has-numbers (taken xs) e = refl
-has-numbers (ended xs run) e = let z : _≡_ {A = ℕ} 0 1 = cc in absurd (omega arith)
-has-numbers (exhausted i) e = let z : _≡_ {A = ℕ} 0 1 = cc in absurd (omega arith)
-
--- both tests hold
-both-true : (a b : Bool) → (a && b) ≡ true → (a ≡ true) × (b ≡ true)
-both-true true b e = (refl, e)
-both-true false b e = let z : _≡_ {A = ℕ} 0 1 = cc in absurd (omega arith)
-
--- a test that fails on the right
-and-false : (a : Bool) → (a && false) ≡ false
-and-false true = refl
-and-false false = refl
-
--- one draw that is not taken
-allTaken-false : (t : ℕ) (draw : ℕ → Drawn) (i : ℕ) → i < t → isTaken (draw i) ≡ false → allTaken t draw ≡ false
-unfolding allTaken
-allTaken-false zero draw i h e = absurd (omega arith)
-allTaken-false (suc t) draw i h e =
-    elim (eq-or-lt-of-le (le-of-suc-le-suc h)) [
-      | inl last ↦ rw (rw last at e) (and-false (allTaken t draw))
-      | inr before ↦ rw (allTaken-false t draw i before e)
-    ]
-
--- each of the draws is taken
-allTaken-each : (t : ℕ) (draw : ℕ → Drawn) → allTaken t draw ≡ true → (i : ℕ) → i < t → isTaken (draw i) ≡ true
-unfolding allTaken
-allTaken-each zero draw e i h = absurd (omega arith)
-allTaken-each (suc t) draw e i h =
-    let both = both-true (allTaken t draw) (isTaken (draw t)) e in
-    elim (eq-or-lt-of-le (le-of-suc-le-suc h)) [
-      | inl last ↦ rw last (both .1)
-      | inr before ↦ allTaken-each t draw (both .0) i before
-    ]
-
--- one draw more is taken
-allTaken-more : (t : ℕ) (draw : ℕ → Drawn) → allTaken t draw ≡ true → isTaken (draw t) ≡ true → allTaken (t + 1) draw ≡ true
-unfolding allTaken
-allTaken-more t draw all more = rw (add-one, all, more)
-
--- no draw
-allTaken-none : (draw : ℕ → Drawn) → allTaken 0 draw ≡ true
-unfolding allTaken
-allTaken-none draw = refl
+use Rattle.sealing.specs.Parts.{Multipliers, packedFirst}
+use Rattle.calls.proofs.Parts.{front}
+use Rattle.sets.proofs.Transforms.{second-size}
+use Rattle.transformed.proofs.Front.{front-placed}
+use Rattle.sealing.proofs.Multiplied.{residue-digits, vector-room}
+use Rattle.scheme.proofs.Taken.{not-taken, taken-numbers, allTaken-false, allTaken-each, allTaken-more, allTaken-none}
 
 -- a small product
 small-product : (i n : ℕ) → i ≤ 10 → n ≤ 2048 → i * n ≤ 20480
@@ -131,7 +80,7 @@ module _ (set : ℕ) (low : set < 13) (p : Parameters) (e : p ≡ setOf set) whe
         subst (Placed (setOf set) 2 (p .n)) (sym (over-lent y 0 ys (p .n) (omega (arith, drawn-size))))
         (rw drawn-size at
         (front-placed set 2 y ys size (rw drawn-size polynomial-fits)
-        (λ k h. uniform-below (setOf set) seed (setOf set .bytpca) counter (setOf set .n) ys some u k)))
+        (record { each = λ k h. uniform-below (setOf set) seed (setOf set .bytpca) counter (setOf set .n) ys some u k })))
 
     -- and are what is sent
     pub drawn-front : take (p .n) (take 0 y ++ (ys ++ drop (p .n - 0) (drop 0 y))) ≡ ys
@@ -244,7 +193,7 @@ module _ (set : ℕ) (low : set < 13) (seed ms : List ℕ) where
   unfolding publicDrawn publicPolynomial
   polynomial-length all i h =
       uniform-length (setOf set) seed (setOf set .bytpca) (publicCounter (setOf set) seed i) (setOf set .n) _
-      (has-numbers (publicDrawn (setOf set) seed i) (allTaken-each (setOf set .t) (publicDrawn (setOf set) seed) all i h))
+      (taken-numbers (publicDrawn (setOf set) seed i) (allTaken-each (setOf set .t) (publicDrawn (setOf set) seed) all i h))
 
   -- all products added up are what is sent of c1'
   pub first-sent : Multipliers (setOf set) ms → allTaken (setOf set .t) (publicDrawn (setOf set) seed) ≡ true
@@ -268,6 +217,6 @@ module _ (set : ℕ) (low : set < 13) (seed ms : List ℕ) where
   -- packed, they are the first part
   pub first-packed : (p : Parameters) → p ≡ setOf set → (total : List ℕ) (len : ℕ) → Multipliers (setOf set) ms → allTaken (setOf set .t) (publicDrawn (setOf set) seed) ≡ true → len ≡ firstBytes (setOf set)
       → total ≡ totals (setOf set .q) (transformSize (setOf set) 2) (setOf set .t) (λ j. sent (setOf set) 2 (vector (setOf set .k + 1) ms j)) (λ j. sent (setOf set) 2 (publicPolynomial (setOf set) seed j))
-      → pack (p .width) len total ≡ firstPart (setOf set) seed ms
-  unfolding firstPart
+      → pack (p .width) len total ≡ packedFirst (setOf set) seed ms
+  unfolding packedFirst
   first-packed p e total len m all l made = rw (e, l, made, first-sent m all)

@@ -30,8 +30,10 @@ use Rattle.transformed.proofs.Vectors.{Stored, sent-placed, recovered-placed, a
 use Rattle.transformed.proofs.Sums.{totals-none, totals-more, totals-placed, totals-recovered}
 use Rattle.transformed.proofs.Recovered.{recovered-take}
 use Rattle.scheme.specs.Encryption.{secondNumbers, secondBytes}
-use Rattle.sealing.specs.Parts.{Multipliers, KeyResidues, messageAdded, secondSums, secondPart}
-use Rattle.sealing.proofs.Multiplied.{first-size, front-length, residue-digits, vector-within, vector-room}
+use Rattle.sealing.specs.Parts.{Multipliers, KeyResidues, messageAdded, secondSums, packedSecond}
+use Rattle.calls.proofs.Parts.{front-length}
+use Rattle.sets.proofs.Transforms.{first-size}
+use Rattle.sealing.proofs.Multiplied.{residue-digits, vector-within, vector-room}
 
 -- a part that begins at the first place
 pub region-front : (xs ys : List ℕ) (n m : ℕ) → n ≡ m → take m xs ≡ ys → region xs 0 n ≡ ys
@@ -160,8 +162,8 @@ module _ (set : ℕ) (low : set < 13) where
       second-digits made = rw e (reduced-digits (setOf set) (rules set low) sums _ _ made)
 
       -- packed, they are the second part
-      pub second-packed : (len : ℕ) → len ≡ secondBytes (setOf set) → sums ≡ secondSums (setOf set) numbers ms message → packDropping (p .width) (p .cmp) len sums ≡ secondPart (setOf set) numbers ms message
-      unfolding secondPart
+      pub second-packed : (len : ℕ) → len ≡ secondBytes (setOf set) → sums ≡ secondSums (setOf set) numbers ms message → packDropping (p .width) (p .cmp) len sums ≡ packedSecond (setOf set) numbers ms message
+      unfolding packedSecond
       second-packed len l made = rw (e, l, made)
 
     module _ (m : Multipliers (setOf set) ms) where

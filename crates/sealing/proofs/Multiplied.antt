@@ -3,40 +3,26 @@
 use mathlib.Core.Path.{_≡_, refl, ap, _∙_}
 use mathlib.Core.List.{List}
 use Prim.Native.Nat.{ℕ, suc, _+_, _-_, _*_, _≤_, _<_}
-use native.Mathlib.Nat.{zero-add, sub-zero, mul-le-mul-left}
+use native.Mathlib.Nat.{mul-le-mul-left}
 use native.Mathlib.Decide.{decLt}
 use native.Mathlib.Omega.{arith}
 use lib.ListN.{length, take, drop}
-use lib.Seq.{length-take-le}
 use Rattle.maths.specs.Vector.{at}
 use Rattle.maths.proofs.Vector.{at-past}
 use Rattle.calls.specs.Region.{region, over, vector}
-use Rattle.calls.proofs.Region.{region-entry, region-length, region-part, over-front, over-inside, over-length}
+use Rattle.calls.proofs.Region.{region-entry, region-length, region-part}
 use Rattle.transforms.specs.Ready.{AllBelow}
 use Rattle.sets.specs.declared.Parameters.{Parameters}
 use Rattle.sets.specs.Table.{setOf}
 use Rattle.sets.specs.Derived.{transformSize, multiplierCount}
-use Rattle.sets.specs.Rules.{Rules, ByteRules}
-use Rattle.sets.proofs.Rules.{rules, byteRules}
-use Rattle.sets.proofs.Transforms.{size-first, size-second, by-size}
+use Rattle.sets.specs.Rules.{Rules}
+use Rattle.sets.proofs.Rules.{rules}
+use Rattle.sets.proofs.Transforms.{by-size}
 use Rattle.packing.specs.Digits.{Digit}
 use Rattle.transformed.specs.Placed.{Placed}
 use Rattle.sealing.specs.Parts.{Multipliers}
-
--- the sizes of the first two transforms
-pub first-size : (p : Parameters) → transformSize p 1 ≡ p .d1
-first-size p = size-first p 1 refl
-
-pub second-size : (p : Parameters) → transformSize p 2 ≡ p .d2
-second-size p = size-second p 2 refl
-
--- the length of a part that begins at the first place
-pub front-length : (xs : List ℕ) (n : ℕ) → n ≤ length xs → length (take (n - 0) (drop 0 xs)) ≡ n
-front-length xs n h = rw sub-zero (length-take-le n xs h)
-
--- the front of a list that was written over
-pub front : (xs ys : List ℕ) → length ys ≤ length xs → take (length ys) (over xs 0 ys) ≡ ys
-front xs ys fits = rw zero-add at (over-front xs 0 ys (rw zero-add fits))
+use Rattle.calls.proofs.Parts.{front}
+use Rattle.transformed.proofs.Front.{front-placed}
 
 -- a vector lies within all vectors
 pub vector-within : (n i t : ℕ) → i < t → n * i + n ≤ n * t
@@ -56,26 +42,7 @@ pub record Room (p : Parameters) (i count : ℕ) : Type 0 where
   pub within : (p .k + 1) * i + (p .k + 1) ≤ count
   pub few : count ≤ 8192
 
--- a slice with residues at its front may be sent
-pub front-placed : (set i : ℕ) (xs ys : List ℕ) → length xs ≡ transformSize (setOf set) i → length ys ≤ transformSize (setOf set) i → ((k : ℕ) → k < length ys → at ys k < setOf set .q)
-    → Placed (setOf set) i (length ys) (over xs 0 ys)
-front-placed set i xs ys size fits below =
-    let room : 0 + length ys ≤ length xs = omega arith in
-    record {
-      size = over-length xs 0 ys room ∙ size;
-      inside = fits;
-      residues = record { each = λ k h. rw (rw zero-add at (over-inside xs 0 ys room k 0 h)) (below k h) };
-    }
-
 module _ (set : ℕ) (low : set < 13) (p : Parameters) (e : p ≡ setOf set) where
-  -- the numbers of the set keep the rules
-  pub rules-of : Rules p
-  rules-of = rw e (rules set low)
-
-  -- and those of bytes
-  pub byteRules-of : 1 ≤ set → ByteRules p
-  byteRules-of some = rw e (byteRules set some low)
-
   -- a multiplier polynomial lies within all multipliers
   pub vector-room : (i : ℕ) → i < setOf set .t → Room p i (multiplierCount (setOf set))
   unfolding multiplierCount
@@ -103,8 +70,10 @@ module _ (set : ℕ) (low : set < 13) (p : Parameters) (e : p ≡ setOf set) whe
         rw (region-part ms ((p .k + 1) * i) (p .k + 1) ((p .k + 1) * i + (p .k + 1)) refl)
         (rw part-size at
         (front-placed set number xs ys size (rw part-size (multiplier-fits number))
-        (λ j l. let inside : j < p .k + 1 = rw part-size at l in
-        rw (region-entry ms ((p .k + 1) * i) (p .k + 1) j 0 inside) (m .residues .each ((p .k + 1) * i + j) (omega (arith, room .within))))))
+        (record {
+          each = λ j l. let inside : j < p .k + 1 = rw part-size at l in
+              rw (region-entry ms ((p .k + 1) * i) (p .k + 1) j 0 inside) (m .residues .each ((p .k + 1) * i + j) (omega (arith, room .within)));
+        })))
 
     -- what is sent is that polynomial
     pub multipliers-front : take (p .k + 1) (over xs 0 (take ((p .k + 1) * i + (p .k + 1) - (p .k + 1) * i) (drop ((p .k + 1) * i) ms))) ≡ vector (setOf set .k + 1) ms i

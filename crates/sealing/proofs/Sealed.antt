@@ -32,7 +32,7 @@ use Rattle.samplers.specs.Seeded.{publicDrawn, multipliersDrawn}
 use Rattle.samplers.proofs.Values.{multipliersDrawn-length}
 use Rattle.scheme.specs.Answers.{workLength, allTaken, allBelow, sealingDraws}
 use Rattle.scheme.specs.Encryption.{residueVector, keySeed, keyNumbers, keyPolynomial, multiplierVector, sealedNumbers, firstBytes, secondBytes, ciphertext}
-use Rattle.sealing.specs.Parts.{Multipliers, KeyResidues, Loaded, firstPart, secondSums, secondPart}
+use Rattle.sealing.specs.Parts.{Multipliers, KeyResidues, Loaded, packedFirst, secondSums, packedSecond}
 
 -- a slice whose first n entries came back as ys keeps its length
 pub back-length : (xs ys : List ℕ) (n : ℕ) → length ys ≡ n → n ≤ length xs → length (take 0 xs ++ (ys ++ drop (n - 0) (drop 0 xs))) ≡ length xs
@@ -161,8 +161,8 @@ module _ (set : ℕ) (low : set < 13) (p : Parameters) (e : p ≡ setOf set) whe
 
   -- both parts are the ciphertext
   pub parts-sealed : (key message seed ms : List ℕ) → ms ≡ map (residue (p .q)) (multipliersDrawn p seed)
-      → firstPart (setOf set) (keySeed key) ms ++ secondPart (setOf set) (keyNumbers (setOf set) key) ms message ≡ ciphertext (setOf set) key message seed
-  unfolding firstPart secondPart secondSums ciphertext sealedNumbers keyPolynomial multiplierVector residueVector
+      → packedFirst (setOf set) (keySeed key) ms ++ packedSecond (setOf set) (keyNumbers (setOf set) key) ms message ≡ ciphertext (setOf set) key message seed
+  unfolding packedFirst packedSecond secondSums ciphertext sealedNumbers keyPolynomial multiplierVector residueVector
   parts-sealed key message seed ms made = rw (made, e)
 
   -- and the numbers before packing are c2'
@@ -206,11 +206,11 @@ module _ (set : ℕ) (low : set < 13) (p : Parameters) (e : p ≡ setOf set) whe
   -- where there is none, the draws decide
   pub draws-decide : (key message seed ns ms out old : List ℕ) (r : Outcome) → allBelow (setOf set .q) (keyNumbers (setOf set) key) ≡ true → ns ≡ keyNumbers (setOf set) key → ms ≡ map (residue (p .q)) (multipliersDrawn p seed)
       → r ≡ refuse (not (allTaken (setOf set .t) (publicDrawn (setOf set) (take (32 - 0) (drop 0 key))))) 5 0 accepted
-      → out ≡ leaves (refuse (not (allTaken (setOf set .t) (publicDrawn (setOf set) (take (32 - 0) (drop 0 key))))) 5 0 accepted) (firstPart (setOf set) (take (32 - 0) (drop 0 key)) ms ++ secondPart (setOf set) ns ms message) old
+      → out ≡ leaves (refuse (not (allTaken (setOf set .t) (publicDrawn (setOf set) (take (32 - 0) (drop 0 key))))) 5 0 accepted) (packedFirst (setOf set) (take (32 - 0) (drop 0 key)) ms ++ packedSecond (setOf set) ns ms message) old
       → (r ≡ sealingDraws (setOf set) key) × (out ≡ leaves (sealingDraws (setOf set) key) (ciphertext (setOf set) key message seed) old)
   unfolding sealingDraws keySeed
   draws-decide key message seed ns ms out old r all numbers multipliers answer made =
       let inner : Outcome = refuse (not (allTaken (setOf set .t) (publicDrawn (setOf set) (take 32 key)))) 5 0 accepted in
       let same : sealingDraws (setOf set) key ≡ inner = refuse-false 3 0 inner (ap not all) in
-      let sealed : firstPart (setOf set) (take 32 key) ms ++ secondPart (setOf set) ns ms message ≡ ciphertext (setOf set) key message seed = rw numbers (parts-sealed key message seed ms multipliers) in
+      let sealed : packedFirst (setOf set) (take 32 key) ms ++ packedSecond (setOf set) ns ms message ≡ ciphertext (setOf set) key message seed = rw numbers (parts-sealed key message seed ms multipliers) in
       (answer ∙ sym same, made ∙ ap (λ (new : List ℕ). leaves inner new old) sealed ∙ ap (λ (o : Outcome). leaves o (ciphertext (setOf set) key message seed) old) (sym same))

@@ -33,8 +33,8 @@ pub record Loaded (p : Parameters) (key seed work : List ℕ) : Type 0 where
   pub multipliers : region work (p .d1 * p .t) (multiplierCount p) ≡ map (residue (p .q)) (multipliersDrawn p seed)
 
 -- line 7: ĉ1 packed, from the seed of the public polynomials and the multipliers
-unfoldable pub firstPart : Parameters → List ℕ → List ℕ → List ℕ
-firstPart p seedpk r = pack (p .width) (firstBytes p) (sent p 2 (firstNumbers p (λ i. vector (p .k + 1) r i) (publicPolynomial p seedpk)))
+unfoldable pub packedFirst : Parameters → List ℕ → List ℕ → List ℕ
+packedFirst p seedpk r = pack (p .width) (firstBytes p) (sent p 2 (firstNumbers p (λ i. vector (p .k + 1) r i) (publicPolynomial p seedpk)))
 
 -- floor(q / 2) times the message added to d numbers
 unfoldable pub messageAdded : Parameters → List ℕ → List ℕ → List ℕ
@@ -45,5 +45,5 @@ unfoldable pub secondSums : Parameters → List ℕ → List ℕ → List ℕ �
 secondSums p b r message = secondNumbers p (λ i. vector (p .k + 1) r i) (λ i. recovered p 1 (p .d + p .k) (vector (p .d1) b i)) (messageBits (p .d) message)
 
 -- line 10: c2' packed without its low bits
-unfoldable pub secondPart : Parameters → List ℕ → List ℕ → List ℕ → List ℕ
-secondPart p b r message = packDropping (p .width) (p .cmp) (secondBytes p) (secondSums p b r message)
+unfoldable pub packedSecond : Parameters → List ℕ → List ℕ → List ℕ → List ℕ
+packedSecond p b r message = packDropping (p .width) (p .cmp) (secondBytes p) (secondSums p b r message)

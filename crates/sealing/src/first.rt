@@ -16,7 +16,7 @@ ghost use Rattle.samplers.specs.Seeded.{publicDrawn};
 ghost use Rattle.transformed.specs.Stored.{sent, totals};
 ghost use Rattle.scheme.specs.Answers.{allTaken};
 ghost use Rattle.scheme.specs.Encryption.{publicPolynomial, firstBytes};
-ghost use Rattle.sealing.specs.Parts.{Multipliers, firstPart};
+ghost use Rattle.sealing.specs.Parts.{Multipliers, packedFirst};
 
 // Draws one public polynomial from the block of `counter` on and sends it.
 fn send_drawn(set: usize, powers: &[u32], seed: &[u8], counter: u32, y: &mut [u32]) -> Advance
@@ -78,7 +78,7 @@ fn first_through(
 ) -> Answer
     requires { ⌜ (1 ≤ set) × (set < 13) × (length (now seed) ≡ 32) × Multipliers (setOf set) (now multipliers) × (length (now out) ≡ firstBytes (setOf set)) × (length (now powers) ≡ transformSize (setOf set) 2) × (length (now total) ≡ transformSize (setOf set) 2) × (length (now x) ≡ transformSize (setOf set) 2) × (length (now y) ≡ transformSize (setOf set) 2) ⌝ }
     ensures answer { λ r. ⌜ outcome r ≡ refuse (not (allTaken (setOf set .t) (publicDrawn (setOf set) (now (seed .entry))))) 5 0 accepted ⌝ }
-    ensures left { λ _. ⌜ now (out .exit) ≡ leaves (refuse (not (allTaken (setOf set .t) (publicDrawn (setOf set) (now (seed .entry))))) 5 0 accepted) (firstPart (setOf set) (now (seed .entry)) (now (multipliers .entry))) (now (out .entry)) ⌝ }
+    ensures left { λ _. ⌜ now (out .exit) ≡ leaves (refuse (not (allTaken (setOf set .t) (publicDrawn (setOf set) (now (seed .entry))))) 5 0 accepted) (packedFirst (setOf set) (now (seed .entry)) (now (multipliers .entry))) (now (out .entry)) ⌝ }
 {
     let p = sets::parameters_of(set);
     roots::load_powers(set, 2, powers);
@@ -94,7 +94,7 @@ fn first_through(
 pub fn seal_first(set: usize, seed: &[u8], multipliers: &[u32], out: &mut [u8]) -> Answer
     requires { ⌜ (1 ≤ set) × (set < 13) × (length (now seed) ≡ 32) × Multipliers (setOf set) (now multipliers) × (length (now out) ≡ firstBytes (setOf set)) ⌝ }
     ensures answer { λ r. ⌜ outcome r ≡ refuse (not (allTaken (setOf set .t) (publicDrawn (setOf set) (now (seed .entry))))) 5 0 accepted ⌝ }
-    ensures left { λ _. ⌜ now (out .exit) ≡ leaves (refuse (not (allTaken (setOf set .t) (publicDrawn (setOf set) (now (seed .entry))))) 5 0 accepted) (firstPart (setOf set) (now (seed .entry)) (now (multipliers .entry))) (now (out .entry)) ⌝ }
+    ensures left { λ _. ⌜ now (out .exit) ≡ leaves (refuse (not (allTaken (setOf set .t) (publicDrawn (setOf set) (now (seed .entry))))) 5 0 accepted) (packedFirst (setOf set) (now (seed .entry)) (now (multipliers .entry))) (now (out .entry)) ⌝ }
 {
     let size = transformed::size_of(set, 2);
     let mut powers = [0u32; 3328];

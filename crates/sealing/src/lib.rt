@@ -14,7 +14,7 @@ ghost use Rattle.packing.specs.Digits.{unpack};
 ghost use Rattle.samplers.specs.Seeded.{publicDrawn};
 ghost use Rattle.scheme.specs.Answers.{workLength, allTaken, allBelow, sealingDraws};
 ghost use Rattle.scheme.specs.Encryption as scheme;
-ghost use Rattle.sealing.specs.Parts.{Multipliers, KeyResidues, Loaded, firstPart, secondPart};
+ghost use Rattle.sealing.specs.Parts.{Multipliers, KeyResidues, Loaded, packedFirst, packedSecond};
 
 mod first;
 mod second;
@@ -42,7 +42,7 @@ fn seal_numbers(
 ) -> Answer
     requires { ⌜ (1 ≤ set) × (set < 13) × (length (now seed) ≡ 32) × KeyResidues (setOf set) (now numbers) × Multipliers (setOf set) (now multipliers) × (length (now ciphertext) ≡ sealedBytes (setOf set)) ⌝ }
     ensures answer { λ r. ⌜ outcome r ≡ refuse (not (allTaken (setOf set .t) (publicDrawn (setOf set) (now (seed .entry))))) 5 0 accepted ⌝ }
-    ensures sealed { λ _. ⌜ now (ciphertext .exit) ≡ leaves (refuse (not (allTaken (setOf set .t) (publicDrawn (setOf set) (now (seed .entry))))) 5 0 accepted) (firstPart (setOf set) (now (seed .entry)) (now (multipliers .entry)) ++ secondPart (setOf set) (now (numbers .entry)) (now (multipliers .entry)) (now (message .entry))) (now (ciphertext .entry)) ⌝ }
+    ensures sealed { λ _. ⌜ now (ciphertext .exit) ≡ leaves (refuse (not (allTaken (setOf set .t) (publicDrawn (setOf set) (now (seed .entry))))) 5 0 accepted) (packedFirst (setOf set) (now (seed .entry)) (now (multipliers .entry)) ++ packedSecond (setOf set) (now (numbers .entry)) (now (multipliers .entry)) (now (message .entry))) (now (ciphertext .entry)) ⌝ }
 {
     let p = sets::parameters_of(set);
     let middle = sets::derived::packed_bytes(p.d2, p.width as usize);

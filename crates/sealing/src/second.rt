@@ -10,7 +10,7 @@ ghost use Rattle.sets.specs.Derived.{transformSize, rootPowers};
 ghost use Rattle.packing.specs.Digits.{Digit};
 ghost use Rattle.transformed.specs.Stored.{sent, totals};
 ghost use Rattle.scheme.specs.Encryption.{secondBytes};
-ghost use Rattle.sealing.specs.Parts.{Multipliers, KeyResidues, messageAdded, secondSums, secondPart};
+ghost use Rattle.sealing.specs.Parts.{Multipliers, KeyResidues, messageAdded, secondSums, packedSecond};
 
 // Adds up in `total` the products of the multiplier polynomials, sent, and the stored b_i.
 fn sum_stored(
@@ -134,7 +134,7 @@ fn second_through(
     sums: &mut [u32],
 )
     requires { ⌜ (1 ≤ set) × (set < 13) × KeyResidues (setOf set) (now numbers) × Multipliers (setOf set) (now multipliers) × (length (now out) ≡ secondBytes (setOf set)) × (length (now sums) ≡ setOf set .d) ⌝ }
-    ensures { λ _. ⌜ now (out .exit) ≡ secondPart (setOf set) (now (numbers .entry)) (now (multipliers .entry)) (now (message .entry)) ⌝ }
+    ensures { λ _. ⌜ now (out .exit) ≡ packedSecond (setOf set) (now (numbers .entry)) (now (multipliers .entry)) (now (message .entry)) ⌝ }
 {
     let p = sets::parameters_of(set);
     second_numbers(set, numbers, multipliers, message, sums);
@@ -144,7 +144,7 @@ fn second_through(
 // Writes the second part of a ciphertext.
 pub fn seal_second(set: usize, numbers: &[u32], multipliers: &[u32], message: &[u8], out: &mut [u8])
     requires { ⌜ (1 ≤ set) × (set < 13) × KeyResidues (setOf set) (now numbers) × Multipliers (setOf set) (now multipliers) × (length (now out) ≡ secondBytes (setOf set)) ⌝ }
-    ensures { λ _. ⌜ now (out .exit) ≡ secondPart (setOf set) (now (numbers .entry)) (now (multipliers .entry)) (now (message .entry)) ⌝ }
+    ensures { λ _. ⌜ now (out .exit) ≡ packedSecond (setOf set) (now (numbers .entry)) (now (multipliers .entry)) (now (message .entry)) ⌝ }
 {
     let d = sets::parameters_of(set).d;
     let mut sums = [0u32; 256];

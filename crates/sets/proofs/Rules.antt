@@ -115,3 +115,12 @@ pub byteRules : (set : ℕ) → 1 ≤ set → set < 13 → ByteRules (setOf set)
 unfolding setOf table
 byteRules zero some h = absurd (not-suc-le-zero some)
 byteRules (suc i) some h = kept-bytes (setOf (suc i)) (at-each byteTests (drop 1 table) table-passed-bytes i (le-of-suc-le-suc h))
+
+module _ (set : ℕ) (low : set < 13) (p : Parameters) (e : p ≡ setOf set) where
+  -- the numbers of the set keep the rules
+  pub rules-of : Rules p
+  rules-of = rw e (rules set low)
+
+  -- and those of bytes
+  pub byteRules-of : 1 ≤ set → ByteRules p
+  byteRules-of some = rw e (byteRules set some low)

@@ -1,6 +1,6 @@
 -- The three transform sizes of a set and their roots, by number.
 -- Assumes nothing.
-use mathlib.Core.Path.{_≡_}
+use mathlib.Core.Path.{_≡_, refl}
 use mathlib.Core.Bool.{Bool, true, false, cond}
 use Prim.Native.Nat.{ℕ, _≤_, _<_}
 use native.Mathlib.Omega.{arith}
@@ -48,6 +48,16 @@ module _ (p : Parameters) (i : ℕ) where
   pub powers-third : (i ≡ 1 → ⊥) → (i ≡ 2 → ⊥) → rootPowers p i ≡ powerTable (p .q) (p .w3) (p .d3)
   unfolding transformSize transformRoot rootPowers
   powers-third f s = rw (ne-eqb i 1 f, ne-eqb i 2 s)
+
+-- the size of each transform
+pub first-size : (p : Parameters) → transformSize p 1 ≡ p .d1
+first-size p = size-first p 1 refl
+
+pub second-size : (p : Parameters) → transformSize p 2 ≡ p .d2
+second-size p = size-second p 2 refl
+
+pub third-size : (p : Parameters) → transformSize p 3 ≡ p .d3
+third-size p = size-third p 3 (λ e. omega arith) (λ e. omega arith)
 
 -- what holds of the three sizes holds of each
 pub by-size : (p : Parameters) (i : ℕ) (P : ℕ → Type 0) → P (p .d1) → P (p .d2) → P (p .d3) → P (transformSize p i)

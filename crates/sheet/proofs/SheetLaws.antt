@@ -128,7 +128,7 @@ two-small x y u v hx hy hu hv = omega (arith, natAbs-+ℤ (x *ℤ y) (u *ℤ v),
 
 module _ (input : List ℕ) (size : length input ≡ 14) (answer : benchAnswer input ≡ accepted) where
   -- so is its noise
-  bench-most : (j : ℕ) → j < 2 → natAbs (numbers.noise bench (benchErrors input) (benchMultipliers input) j) < 2 ^ 62
+  bench-most : (j : ℕ) → j < 2 → natAbs (numbers.numbersNoise bench (benchErrors input) (benchMultipliers input) j) < 2 ^ 62
   bench-most j h =
       let small = bench-small input size answer in
       rw (← noise-two (benchErrors input) (benchMultipliers input) j (small .errors-length) (small .multipliers-length) h)

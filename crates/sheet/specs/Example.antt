@@ -14,7 +14,7 @@ use Rattle.sets.specs.Table.{none, table, setOf}
 use Rattle.sets.specs.Derived.{halfModulus}
 use Rattle.numbers.specs.Scheme.{key, sumOfProducts, firstPart, secondPart, opened, bitRead, reading}
 use Rattle.numbers.specs.Calls.{multiplierBound}
-use Rattle.numbers.specs.Noise.{productℤ, noise}
+use Rattle.numbers.specs.Noise.{productℤ, numbersNoise}
 use Rattle.bench_rows.specs.Bench as bench
 use Rattle.sheet_text.specs.Decimal as decimal
 use Rattle.sheet_text.specs.Order.{shown, ordered, inserted, insert, before, sizeAt}
@@ -35,7 +35,7 @@ sheetOf-example :
     48 ∷ 32 ∷ 45 ∷ 50 ∷ 32 ∷ 49 ∷ 32 ∷ 49 ∷ 10 ∷
     49 ∷ 32 ∷ 45 ∷ 49 ∷ 32 ∷ 48 ∷ 32 ∷ 48 ∷ 10 ∷
     99 ∷ 101 ∷ 105 ∷ 108 ∷ 105 ∷ 110 ∷ 103 ∷ 32 ∷ 52 ∷ 32 ∷ 104 ∷ 97 ∷ 108 ∷ 102 ∷ 32 ∷ 56 ∷ 10 ∷ []
-unfolding sheetOf sheetAnswer inputAnswer setByte inputBytes rowsAnswer rowsText rowNoise rowSent rowRead ceiling halfModulus none table setOf bench.benchAnswer bench.benchFits bench.signed bench.benchNoise bench.benchRead refuseFirst passing multiplierBound region noise productℤ sumℤ tabulate sum product residue floorBit key sumOfProducts firstPart secondPart opened bitRead reading sheetText header rows row lastLine ceilingWord halfWord shown ordered inserted insert before sizeAt decimal.signed decimal.decimal decimal.digits
+unfolding sheetOf sheetAnswer inputAnswer setByte inputBytes rowsAnswer rowsText rowNoise rowSent rowRead ceiling halfModulus none table setOf bench.benchAnswer bench.benchFits bench.signed bench.benchNoise bench.benchRead refuseFirst passing multiplierBound region numbersNoise productℤ sumℤ tabulate sum product residue floorBit key sumOfProducts firstPart secondPart opened bitRead reading sheetText header rows row lastLine ceilingWord halfWord shown ordered inserted insert before sizeAt decimal.signed decimal.decimal decimal.digits
 sheetOf-example = refl
 
 -- refused 2 0, for an empty input

@@ -2,4 +2,3 @@ pub mod Sponge
 pub mod Kmac
 pub mod Absorbed
 pub mod Answers
-pub mod Known

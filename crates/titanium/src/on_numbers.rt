@@ -3,7 +3,7 @@ use crate::code;
 ghost use mathlib.Core.Path.{_≡_};
 ghost use lib.ListN.{length};
 ghost use Rattle.middle.specs.Calls.{middleAnswer, middleLeft};
-ghost use Rattle.transformed_middle.specs.Calls.{transformedAnswer, transformedLeft, workLeft};
+ghost use Rattle.transformed_middle.specs.Calls.{transformedAnswer, transformedLeft, middleWorkLeft};
 ghost use Rattle.numbers.specs.Calls.{keyAnswer, keyLeft, sealingAnswer, firstPartLeft, secondPartLeft, readingAnswer, readingLeft};
 ghost use Rattle.titanium.specs.Coded.{coded};
 
@@ -27,7 +27,7 @@ pub extern "C" fn titanium_transformed_middle_product(
 ) -> u64
     ensures answer { λ r. ⌜ r ≡ coded (transformedAnswer set (now (a .entry)) (now (b .entry)) (length (now (out .entry))) (length (now (work .entry)))) ⌝ }
     ensures left { λ _. ⌜ now (out .exit) ≡ transformedLeft set (now (a .entry)) (now (b .entry)) (now (out .entry)) (length (now (work .entry))) ⌝ }
-    ensures cleared { λ _. ⌜ now (work .exit) ≡ workLeft set (length (now (a .entry))) (length (now (b .entry))) (length (now (out .entry))) (now (work .entry)) ⌝ }
+    ensures cleared { λ _. ⌜ now (work .exit) ≡ middleWorkLeft set (length (now (a .entry))) (length (now (b .entry))) (length (now (out .entry))) (now (work .entry)) ⌝ }
 {
     code(transformed_middle::middle_product(set, a, b, out, work))
 }

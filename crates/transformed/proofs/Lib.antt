@@ -5,3 +5,4 @@ pub mod Vectors
 pub mod Correlations
 pub mod Recovered
 pub mod Sums
+pub mod Front

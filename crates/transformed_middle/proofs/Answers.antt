@@ -13,7 +13,7 @@ use Rattle.calls.specs.Checks.{allOf}
 use Rattle.calls.proofs.Outcome.{leaves-refused, leaves-accepted}
 use Rattle.calls.proofs.Checks.{allOf-each}
 use Rattle.sets.specs.Table.{setOf}
-use Rattle.transformed_middle.specs.Calls.{transformedShape, lengthsChecked, numbersChecked, transformedAnswer, transformedLeft, workLeft}
+use Rattle.transformed_middle.specs.Calls.{transformedShape, lengthsChecked, numbersChecked, transformedAnswer, transformedLeft, middleWorkLeft}
 use Rattle.transformed_middle.specs.Lengths.{Lengths}
 
 module _ (set a b d work : ℕ) (after : Outcome) where
@@ -52,12 +52,12 @@ lengths-passed set a b d work e l =
 -- what a call has answered and left: the answer, the output, the work slice
 abbrev pub Ended : ℕ → List ℕ → List ℕ → List ℕ → List ℕ → Outcome → List ℕ → List ℕ → Type 0
 Ended set a b out work answer out′ work′ =
-    (answer ≡ transformedAnswer set a b (length out) (length work)) × ((out′ ≡ transformedLeft set a b out (length work)) × (work′ ≡ workLeft set (length a) (length b) (length out) work))
+    (answer ≡ transformedAnswer set a b (length out) (length work)) × ((out′ ≡ transformedLeft set a b out (length work)) × (work′ ≡ middleWorkLeft set (length a) (length b) (length out) work))
 
 module _ (set : ℕ) (a b out work : List ℕ) where
   -- a call refused at its set or lengths leaves both slices as they were
   refused-early : {number place : ℕ} → ((after : Outcome) → lengthsChecked set (length a) (length b) (length out) (length work) after ≡ refused number place) → Ended set a b out work (refused number place) out work
-  unfolding transformedAnswer transformedLeft workLeft
+  unfolding transformedAnswer transformedLeft middleWorkLeft
   refused-early e = (sym (e _), (sym (leaves-refused _ out (e _)), sym (leaves-refused _ work (e accepted))))
 
   -- no such set
@@ -76,7 +76,7 @@ module _ (set : ℕ) (a b out work : List ℕ) where
   pub numbers-decide : set ≤ 12 → allOf (transformedShape (setOf set .d3) (length a) (length b) (length out) (length work)) ≡ true → length b ≤ setOf set .d3 → {answer : Outcome} {out′ work′ : List ℕ} {n : ℕ}
       → answer ≡ numbersChecked set a b → out′ ≡ leaves (numbersChecked set a b) (middleProduct (setOf set .q) a b (length out)) out → work′ ≡ replicate n 0 → n ≡ length work
       → Ended set a b out work answer out′ work′
-  unfolding transformedAnswer transformedLeft workLeft
+  unfolding transformedAnswer transformedLeft middleWorkLeft
   numbers-decide h e l answered left cleared kept =
       let passed : (after : Outcome) → lengthsChecked set (length a) (length b) (length out) (length work) after ≡ after = λ after. checked-passed set _ _ _ _ after h e l in
       (answered ∙ sym (passed _), (rw (passed (numbersChecked set a b)) left, cleared ∙ rw kept (sym (leaves-accepted _ work (passed accepted)))))

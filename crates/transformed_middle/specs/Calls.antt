@@ -14,8 +14,8 @@ use Rattle.sets.specs.Table.{table, setOf}
 use Rattle.middle.specs.Calls.{middleShape}
 
 -- the length of the work slice: the size of a set's largest transform
-abbrev pub workLength : Parameters → ℕ
-workLength p = p .d3
+abbrev pub middleWorkLength : Parameters → ℕ
+middleWorkLength p = p .d3
 
 -- the lengths of a middle product of a and b with d results, and of its work slice
 abbrev pub transformedShape : ℕ → ℕ → ℕ → ℕ → ℕ → List Bool
@@ -25,7 +25,7 @@ transformedShape size a b d work = eqb work size ∷ middleShape a b d
 unfoldable pub lengthsChecked : ℕ → ℕ → ℕ → ℕ → ℕ → Outcome → Outcome
 lengthsChecked set a b d work after =
     refuse (ltb 12 set) 1 0
-    (refuse (not (allOf (transformedShape (workLength (setOf set)) a b d work))) 6 0
+    (refuse (not (allOf (transformedShape (middleWorkLength (setOf set)) a b d work))) 6 0
     (refuse (ltb (setOf set .d3) b) 7 0 after))
 
 -- the check of the numbers, their places counted through a, then b
@@ -41,8 +41,8 @@ unfoldable pub transformedLeft : ℕ → List ℕ → List ℕ → List ℕ → 
 transformedLeft set a b out work = leaves (transformedAnswer set a b (length out) work) (middleProduct (setOf set .q) a b (length out)) out
 
 -- what it leaves in the work slice: all zero once the set and the lengths are checked, else as it was
-unfoldable pub workLeft : ℕ → ℕ → ℕ → ℕ → List ℕ → List ℕ
-workLeft set a b d work = leaves (lengthsChecked set a b d (length work) accepted) (replicate (length work) 0) work
+unfoldable pub middleWorkLeft : ℕ → ℕ → ℕ → ℕ → List ℕ → List ℕ
+middleWorkLeft set a b d work = leaves (lengthsChecked set a b d (length work) accepted) (replicate (length work) 0) work
 
 -- set 0 has room for 4 numbers of b: 5 of them fit a and the result, and not the transform
 transformedAnswer-example : transformedAnswer 0 (3 ∷ 5 ∷ []) (1 ∷ 2 ∷ 3 ∷ 4 ∷ 17 ∷ []) 4 4 ≡ refused 7 0

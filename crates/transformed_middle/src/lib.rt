@@ -12,7 +12,7 @@ ghost use Rattle.sets.specs.Table.{setOf};
 ghost use Rattle.sets.specs.Derived.{transformSize};
 ghost use Rattle.transforms.specs.Ready.{AllBelow};
 ghost use Rattle.transformed.specs.Stored.{sentInverse};
-ghost use Rattle.transformed_middle.specs.Calls.{transformedShape, numbersChecked, transformedAnswer, transformedLeft, workLeft};
+ghost use Rattle.transformed_middle.specs.Calls.{transformedShape, numbersChecked, transformedAnswer, transformedLeft, middleWorkLeft};
 ghost use Rattle.transformed_middle.specs.Lengths.{Lengths};
 
 // Whether the lengths of a middle product of `a` and `b` numbers with `d` results fit each other, and the work slice has its size.
@@ -100,7 +100,7 @@ fn checked(set: usize, a: &[u32], b: &[u32], out: &mut [u32], work: &mut [u32]) 
 pub fn middle_product(set: usize, a: &[u32], b: &[u32], out: &mut [u32], work: &mut [u32]) -> Answer
     ensures answer { λ r. ⌜ outcome r ≡ transformedAnswer set (now (a .entry)) (now (b .entry)) (length (now (out .entry))) (length (now (work .entry))) ⌝ }
     ensures left { λ _. ⌜ now (out .exit) ≡ transformedLeft set (now (a .entry)) (now (b .entry)) (now (out .entry)) (length (now (work .entry))) ⌝ }
-    ensures cleared { λ _. ⌜ now (work .exit) ≡ workLeft set (length (now (a .entry))) (length (now (b .entry))) (length (now (out .entry))) (now (work .entry)) ⌝ }
+    ensures cleared { λ _. ⌜ now (work .exit) ≡ middleWorkLeft set (length (now (a .entry))) (length (now (b .entry))) (length (now (out .entry))) (now (work .entry)) ⌝ }
 {
     if 12 < set {
         return Answer::Refused(1, 0);

@@ -1,4 +1,4 @@
-//! What run_draws prints.
+//! What run_bytes prints of the draws over lent bytes.
 
 use super::report::{answer, number_sum, pattern, signed_sum};
 use crate::draws::{errors, multipliers, residues};

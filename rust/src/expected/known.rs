@@ -1,4 +1,4 @@
-//! What run_known reads and prints: the known answers of an independent model (rust/vectors/titanium.txt), as that file has them.
+//! What run_scheme reads and prints first: the known answers of an independent model (rust/vectors/titanium.txt), as that file has them.
 
 use std::collections::HashMap;
 

@@ -1,4 +1,4 @@
-//! What run_middle prints.
+//! What run_arithmetic prints of the middle products.
 
 use super::report::{answer, number_sum, residues};
 use crate::arithmetic::{middle_product_call, Lengths};

@@ -1,9 +1,8 @@
 //! What the programs of crates/run_* print, made by this implementation.
 
-pub mod calls;
+pub mod cases;
+pub mod damage;
 pub mod draws;
-pub mod encryption;
-pub mod exchange;
 pub mod known;
 pub mod middle;
 pub mod numbers;

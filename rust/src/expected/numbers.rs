@@ -1,4 +1,4 @@
-//! What run_numbers prints.
+//! What run_arithmetic prints of the calls on numbers.
 
 use super::report::{answer, number_sum, residues};
 use crate::numbers::{key, reading, sealing};
@@ -81,7 +81,11 @@ impl Row {
     }
 
     fn sealing(&self, b: &[u32], short: usize, wrong: usize) -> (String, [Vec<u32>; 2]) {
-        let (mut a, mut b, mut r, mut m) = (self.a(), b.to_vec(), self.multipliers(), self.message());
+        self.sealing_with(b, self.multipliers(), short, wrong)
+    }
+
+    fn sealing_with(&self, b: &[u32], mut r: Vec<i32>, short: usize, wrong: usize) -> (String, [Vec<u32>; 2]) {
+        let (mut a, mut b, mut m) = (self.a(), b.to_vec(), self.message());
         set_last(&mut a, wrong == 1, self.s.q as u32);
         set_last(&mut b, wrong == 2, self.s.q as u32);
         if wrong == 3 {
@@ -111,6 +115,23 @@ impl Row {
         format!("reading {} {} {} {} {results} {answer} {bits}\n", self.number, c1.len(), c2.len(), s.len())
     }
 
+    /// A sealing with one multiplier at a position in place of the one there.
+    fn with_multiplier(&self, position: usize, multiplier: i32) -> String {
+        let (b, mut r) = (residues(self.s.t * (self.s.d + self.s.k), 4, self.s.q), self.multipliers());
+        r[position] = multiplier;
+        let (negative, size) = ((multiplier < 0) as usize, multiplier.unsigned_abs());
+        format!("multiplier {position} {negative} {size}\n") + &self.sealing_with(&b, r, 0, 0).0
+    }
+
+    /// Multipliers just at and just above each bound, and 0, at the last position of the first bound and the first position of the second.
+    fn bounds(&self) -> String {
+        assert!(self.s.b1 < self.s.b2 && self.s.first_bound < self.s.multipliers());
+        let (first, second) = (1 << self.s.b1, 1 << self.s.b2);
+        let multipliers = [first, first + 1, second, second + 1].into_iter().flat_map(|size| [size, -size]).chain([0]);
+        let positions = [self.s.first_bound - 1, self.s.first_bound];
+        multipliers.flat_map(|multiplier| positions.map(|position| self.with_multiplier(position, multiplier))).collect()
+    }
+
     fn text(&self) -> String {
         let keys = [(1, 0), (2, 0), (3, 0), (4, 0), (0, 1), (0, 2), (0, 3), (0, 4), (1, 1)];
         let short = [(1, 0), (2, 0), (3, 0), (4, 0), (5, 0), (6, 0)];
@@ -128,11 +149,13 @@ impl Row {
     }
 }
 
+/// The row of a set, with an error and a multiplier that are too large.
+fn row(number: usize, wrong_error: i32, wrong_multiplier: i32) -> Row {
+    let s = set(number).or(set(0)).unwrap();
+    Row { number, s, wrong_error, wrong_multiplier }
+}
+
 pub fn text() -> String {
-    [(0, 2, 3), (1, -5, -257), (9, 5, 33), (12, -5, 257), (13, 2, -3)]
-        .map(|(number, wrong_error, wrong_multiplier)| {
-            let s = set(number).or(set(0)).unwrap();
-            Row { number, s, wrong_error, wrong_multiplier }.text()
-        })
-        .concat()
+    let rows = [row(0, 2, 3), row(1, -5, -257), row(9, 5, 33), row(12, -5, 257), row(13, 2, -3)];
+    rows.each_ref().map(Row::text).concat() + &rows[2].bounds()
 }

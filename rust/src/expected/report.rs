@@ -27,8 +27,9 @@ pub fn number_sum(numbers: &[u32]) -> u64 {
     sum(numbers.iter().map(|&x| x as u64))
 }
 
+/// Each number is raised by 2^24, so that it has no sign.
 pub fn signed_sum(numbers: &[i32]) -> u64 {
-    sum(numbers.iter().flat_map(|&x| [(x < 0) as u64, x.unsigned_abs() as u64]))
+    sum(numbers.iter().map(|&x| (x + 16777216) as u64))
 }
 
 /// The pattern that slices are filled with.

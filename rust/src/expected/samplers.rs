@@ -1,4 +1,4 @@
-//! What run_samplers prints.
+//! What run_bytes prints of the draws from a seed.
 
 use super::report::{number_sum, pattern};
 use crate::arithmetic::residue;

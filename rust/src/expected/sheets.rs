@@ -1,4 +1,4 @@
-//! What run_sheet and noisesheet read and print.
+//! What run_scheme reads and prints last, and what noisesheet does.
 
 use super::report::{number_sum, pattern};
 use crate::arithmetic::{bit, middle_product};

@@ -1,4 +1,4 @@
-//! What run_sponge prints.
+//! What run_bytes prints of SHAKE256 and KMAC.
 
 use super::report::{answer, byte_sum, hex, pattern};
 use crate::draws::{refusal, Refusal};

@@ -1,4 +1,4 @@
-//! What run_transforms prints.
+//! What run_arithmetic prints of the transforms.
 
 use super::report::{number_sum, residues};
 use crate::arithmetic::{pointwise, Transform};
@@ -18,7 +18,9 @@ fn case(s: &Set, i: usize, n: usize) -> String {
     let one = forth(s, &forward, &inverse, &vector(1)[..n]);
     let other = forth(s, &inverse, &forward, &vector(2)[..n]);
     let correlated = forward.scaled(&pointwise(s.q, &forward.forward(&vector(3)[..n]), &vector(4)));
-    format!("transform {} {} {n}{one}{other} {}\n", s.number, i + 1, number_sum(&correlated))
+    // a correlation of n numbers settles as many places as n leave
+    let settled = &correlated[..s.sizes[i] + 1 - n];
+    format!("transform {} {} {n}{one}{other} {}\n", s.number, i + 1, number_sum(settled))
 }
 
 pub fn text() -> String {

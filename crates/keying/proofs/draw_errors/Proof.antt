@@ -14,7 +14,7 @@ use Rattle.samplers.specs.Seeded.{errorCount, errorsDrawn}
 use Rattle.samplers.proofs.Values.{errorsDrawn-length}
 use Rattle.keying.specs.Held.{vectorsStart}
 use Rattle.keying.proofs.Room.{vectors-room, secret-room}
-use Rattle.keying.proofs.Parts.{part-length}
+use Rattle.calls.proofs.Parts.{part-length}
 use borrow.Author.Needs.{needs}
 use Rattle.keying.proofs.draw_errors.Statement.{statement}
 use Rattle.keying.proofs.draw_errors.Tie as tie

@@ -12,8 +12,9 @@ use Rattle.sets.proofs.Rules.{rules, byteRules}
 use Rattle.samplers.specs.Seeded.{secretDrawn}
 use Rattle.scheme.specs.Encryption.{storedSecret}
 use Rattle.keying.proofs.Room.{vectors-room, secret-room}
-use Rattle.keying.proofs.Parts.{front-length}
-use Rattle.keying.proofs.Drawn.{taken-numbers, secret-answer, secret-draw}
+use Rattle.calls.proofs.Parts.{front-length}
+use Rattle.scheme.proofs.Taken.{taken-numbers}
+use Rattle.keying.proofs.Drawn.{secret-answer, secret-draw}
 use borrow.Author.Needs.{needs}
 use Rattle.keying.proofs.draw_stored.Statement.{statement}
 use Rattle.keying.proofs.draw_stored.Tie as tie

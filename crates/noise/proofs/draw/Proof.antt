@@ -10,7 +10,7 @@ use Rattle.sets.specs.declared.Parameters.{Parameters}
 use Rattle.sets.specs.Table.{setOf}
 use Rattle.sets.specs.Derived.{multiplierCount}
 use Rattle.samplers.specs.Seeded.{errorCount, multipliersDrawn}
-use Rattle.sealing.proofs.Multiplied.{rules-of, byteRules-of}
+use Rattle.sets.proofs.Rules.{rules-of, byteRules-of}
 use Rattle.sealing.proofs.Sealed.{part-long}
 use Rattle.noise.proofs.Held.{work-room, multipliers-written}
 use borrow.Author.Needs.{needs}

@@ -11,7 +11,8 @@ use Rattle.sets.specs.Table.{setOf}
 use Rattle.samplers.specs.Blocks.{onward}
 use Rattle.samplers.specs.Seeded.{errorCount, errorsDrawn, secretCounter}
 use Rattle.scheme.specs.Encryption.{errors}
-use Rattle.sealing.proofs.Multiplied.{front-length, rules-of, byteRules-of}
+use Rattle.calls.proofs.Parts.{front-length}
+use Rattle.sets.proofs.Rules.{rules-of, byteRules-of}
 use Rattle.sealing.proofs.Sealed.{back-length}
 use Rattle.noise.proofs.Held.{work-room, secret-counter, never-refused, errors-written}
 use borrow.Author.Needs.{needs}

@@ -13,7 +13,8 @@ use Rattle.sets.specs.Derived.{multiplierCount}
 use Rattle.draws.specs.Calls.{inTurn}
 use Rattle.samplers.specs.Seeded.{errorCount, multipliersDrawn}
 use Rattle.scheme.specs.Encryption.{errors}
-use Rattle.sealing.proofs.Multiplied.{front-length, rules-of, byteRules-of}
+use Rattle.calls.proofs.Parts.{front-length}
+use Rattle.sets.proofs.Rules.{rules-of, byteRules-of}
 use Rattle.sealing.proofs.Sealed.{part-long}
 use Rattle.noise.specs.Centred.{Residues, centredNoise}
 use Rattle.noise.proofs.Held.{work-room, errors-part, multipliers-part}

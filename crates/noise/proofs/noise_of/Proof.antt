@@ -3,8 +3,8 @@
 use mathlib.Core.Path.{ap, _∙_}
 use native.Mathlib.Omega.{arith}
 use Rattle.sets.specs.declared.Parameters.{Parameters}
-use Rattle.samplers.proofs.Part.{part-length}
-use Rattle.sealing.proofs.Multiplied.{rules-of}
+use Rattle.calls.proofs.Parts.{array-front}
+use Rattle.sets.proofs.Rules.{rules-of}
 use Rattle.noise.proofs.Drawn.{noise-small}
 use borrow.Author.Needs.{needs}
 use Rattle.noise.proofs.noise_of.Statement.{statement}
@@ -18,8 +18,8 @@ noise-through-requires c κs =
     let start = c .before .before .before .before .before .before .before .before .before .before in
     let pre = start .pre in
     let e = c .before .before .before .before .parameters-of .ensures in
-    let long = part-length 256 (c .before .before .before .before .parameters-of .result .d) (rules-of (start .args .set) (pre .1) _ e .most-d) ∙ ap (λ (p : Parameters). p .d) e in
-    (pre .0, pre .1, pre .2, pre .3, pre .4, pre .5, pre .6, pre .7, pre .8, part-length 32 32 (omega arith), long)
+    let long = array-front 256 (c .before .before .before .before .parameters-of .result .d) (rules-of (start .args .set) (pre .1) _ e .most-d) ∙ ap (λ (p : Parameters). p .d) e in
+    (pre .0, pre .1, pre .2, pre .3, pre .4, pre .5, pre .6, pre .7, pre .8, array-front 32 32 (omega arith), long)
 
 returns : tie.Need-returns
 returns c =

@@ -11,8 +11,9 @@ use Rattle.sets.specs.Derived.{transformSize}
 use Rattle.sets.proofs.Rules.{rules}
 use Rattle.transformed.specs.Stored.{recoveredInverse}
 use Rattle.transformed.specs.Placed.{Placed, Correlated}
-use Rattle.opening.proofs.First.{second-size, first, second-room, first-unpacked, buffer-placed, buffer-lent, first-correlated}
-use Rattle.opening.proofs.Room.{part-length}
+use Rattle.sets.proofs.Transforms.{second-size}
+use Rattle.opening.proofs.First.{first, second-room, first-unpacked, buffer-placed, buffer-lent, first-correlated}
+use Rattle.calls.proofs.Parts.{front-length}
 use borrow.Author.Needs.{needs}
 use Rattle.opening.proofs.correlate_first.Statement.{statement}
 use Rattle.opening.proofs.correlate_first.Tie as tie
@@ -37,8 +38,8 @@ recover-first-requires c κs =
     let size = second-size (setOf set) in (
       pre .0,
       pre .1,
-      rw (c .before .before .before .before .parameters-of .ensures) (part-length powers (setOf set .d2) (second-room set (pre .1) powers (pre .4)) ∙ sym size),
-      rw (c .before .before .before .before .parameters-of .ensures) (part-length x (setOf set .d2) (second-room set (pre .1) x (pre .5)) ∙ sym size),
+      rw (c .before .before .before .before .parameters-of .ensures) (front-length powers (setOf set .d2) (second-room set (pre .1) powers (pre .4)) ∙ sym size),
+      rw (c .before .before .before .before .parameters-of .ensures) (front-length x (setOf set .d2) (second-room set (pre .1) x (pre .5)) ∙ sym size),
     )
 
 add-correlate : tie.Need-add-correlate

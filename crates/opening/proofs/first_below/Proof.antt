@@ -11,7 +11,8 @@ use Rattle.sets.proofs.Rules.{rules, byteRules}
 use Rattle.scheme.specs.Encryption.{cipherFirst}
 use Rattle.scheme.specs.Answers.{allBelow}
 use Rattle.opening.proofs.First.{first-unpacked, cipherFirst-length, below-test}
-use Rattle.opening.proofs.Room.{part-length, part-front, front-room, secret-room, first-widths}
+use Rattle.calls.proofs.Parts.{front-length, part-front, front-room}
+use Rattle.opening.proofs.Room.{secret-room, first-widths}
 use borrow.Author.Needs.{needs}
 use Rattle.opening.proofs.first_below.Statement.{statement}
 use Rattle.opening.proofs.first_below.Tie as tie
@@ -36,7 +37,7 @@ unpacked c =
     let p = setOf set in
     let room : p .d2 ≤ length (start .args .work .now) = omega (arith, start .pre .3, secret-room p, rules set (start .pre .1) .rising2) in
     c .unpack-into .ensures
-    ∙ first-unpacked p (start .args .ciphertext .now) (ap (λ (p : Parameters). p .width) (c .before .before .before .before .parameters-of .ensures)) (rw (c .before .before .before .before .parameters-of .ensures) (part-length (start .args .work .now) (p .d2) room)) (c .before .before .before .first-bytes .ensures .0)
+    ∙ first-unpacked p (start .args .ciphertext .now) (ap (λ (p : Parameters). p .width) (c .before .before .before .before .parameters-of .ensures)) (rw (c .before .before .before .before .parameters-of .ensures) (front-length (start .args .work .now) (p .d2) room)) (c .before .before .before .first-bytes .ensures .0)
 
 -- and how many numbers
 unpacked-length : (c : tie.After-unpack-into) → length (c .unpack-into .last .1 .1 .0) ≡ c .before .before .before .before .parameters-of .result .d2

@@ -18,7 +18,8 @@ use Rattle.scheme.specs.Encryption.{storedSecret}
 use Rattle.opening.specs.Opened.{openedMessage}
 use Rattle.opening.proofs.Bits.{opened-message}
 use Rattle.opening.proofs.Secret.{secret-taken, secret-refused, secret-placed}
-use Rattle.opening.proofs.Room.{part-length, part-front, front-room, secret-room}
+use Rattle.calls.proofs.Parts.{front-length, part-front, front-room}
+use Rattle.opening.proofs.Room.{secret-room}
 use borrow.Author.Needs.{needs}
 use Rattle.opening.proofs.open.Statement.{statement}
 use Rattle.opening.proofs.open.Tie as tie
@@ -35,7 +36,7 @@ residues-from-requires c κs =
     let kept = rules set (start .pre .1) in
     let bytes = byteRules set (start .pre .0) (start .pre .1) in
     let room = rw (← start .pre .5) at (secret-room (setOf set)) in
-    rw (c .before .parameters-of .ensures, part-length (start .args .work .now) (setOf set .d3) room)
+    rw (c .before .parameters-of .ensures, front-length (start .args .work .now) (setOf set .d3) room)
     (kept, omega (arith, start .pre .2), bytes .some-bytpcs, bytes .most-bytpcs, omega (arith, kept .holds3, kept .some-n, kept .some-d, kept .some-k), omega (arith, kept .most-d3))
 
 -- after the draw: the secret's seed, the set's parameters, the work slice before, and what the draw left at its front
@@ -58,11 +59,11 @@ module _ (c : tie.After-residues-from) where
 
   -- as many numbers are drawn as it has
   drawn-length : length drawn ≡ c .before .before .parameters-of .result .d3
-  drawn-length = omega (arith, c .residues-from .kept, part-length work (c .before .before .parameters-of .result .d3) (omega (arith, room, ap (λ (o : Parameters). o .d3) (c .before .before .parameters-of .ensures))))
+  drawn-length = omega (arith, c .residues-from .kept, front-length work (c .before .before .parameters-of .result .d3) (omega (arith, room, ap (λ (o : Parameters). o .d3) (c .before .before .parameters-of .ensures))))
 
   -- the draw is the one that the definition makes
   answered : uniformAnswer p seed (p .bytpcs) 0 (p .d3) ≡ onward (c .residues-from .result)
-  answered = sym (rw (c .before .before .parameters-of .ensures, part-length work (p .d3) room) at (c .residues-from .ensures .0))
+  answered = sym (rw (c .before .before .parameters-of .ensures, front-length work (p .d3) room) at (c .residues-from .ensures .0))
 
   module _ {next : ℕ} (told : c .residues-from .result ≡ Counter next) where
     -- a draw with a counter has its numbers
@@ -74,7 +75,7 @@ module _ (c : tie.After-residues-from) where
     stored =
         part-front drawn _ (c .before .before .parameters-of .result .d3) drawn-length
         ∙ c .residues-from .ensures .1 (secret .xs)
-        (ap (λ (o : Parameters). uniform o seed (o .bytpcs) 0 (length (take (o .d3 - 0) work))) (c .before .before .parameters-of .ensures) ∙ ap (uniform p seed (p .bytpcs) 0) (part-length work (p .d3) room) ∙ secret .drawn-is)
+        (ap (λ (o : Parameters). uniform o seed (o .bytpcs) 0 (length (take (o .d3 - 0) work))) (c .before .before .parameters-of .ensures) ∙ ap (uniform p seed (p .bytpcs) 0) (front-length work (p .d3) room) ∙ secret .drawn-is)
         ∙ sym (secret-taken p seed (secret .xs) (secret .drawn-is) .1)
 
     -- which may be correlated with

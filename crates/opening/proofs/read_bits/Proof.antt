@@ -5,7 +5,8 @@ use native.Mathlib.Omega.{arith}
 use Rattle.sets.specs.Table.{setOf}
 use Rattle.sets.proofs.Rules.{rules, byteRules}
 use Rattle.opening.specs.Opened.{differenceBits, openedBits}
-use Rattle.opening.proofs.First.{third-size, front-below}
+use Rattle.sets.proofs.Transforms.{third-size}
+use Rattle.opening.proofs.First.{front-below}
 use Rattle.opening.proofs.Bits.{differenceBits-front, second-unpacked}
 use Rattle.opening.proofs.Room.{second-widths}
 use borrow.Author.Needs.{needs}

@@ -1,38 +1,32 @@
--- `residues::of_signed` meets its contract: by the sign, the residue of the size or of its negation.
+-- `residues::of_signed` meets its contract: z is raised by a multiple of q, to less than 2^48.
 -- Assumes nothing.
 use mathlib.Core.Path.{_≡_, ap, _∙_}
-use Prim.Native.Nat.{ℕ, _-_, _%_}
-use borrow.Author.Needs.{needs}
-use lib.IntN.{natAbs}
+use Prim.Native.Nat.{_^_, _<_}
+use native.Mathlib.Omega.{arith}
+use lib.IntN.{ℤ, pos, _+ℤ_}
 use mir.Syntax.{w32}
 use mir.ValLaws.{toZ-ofZ}
-use Rattle.residues.proofs.Laws.{remainder-below}
-use Rattle.residues.proofs.Signed.{stored-negative, stored-natural}
+use borrow.Author.Needs.{needs}
+use Rattle.residues.proofs.Signed.{raised-small, raised-residue}
 use Rattle.residues.proofs.of_signed.Statement.{statement}
 use Rattle.residues.proofs.of_signed.Tie as tie
 
--- the residue of the size
-size : (c : tie.After-reduce-product) → c .reduce-product .result ≡ natAbs (c .before .before .args .z) % c .before .before .args .q
-size c =
-    let start = c .before .before in
-    c .reduce-product .ensures
-    ∙ ap (λ (x : ℕ). x % start .args .q) (c .before .size-of .ensures ∙ ap natAbs (toZ-ofZ w32 (start .args .z) (start .fits .z)))
+-- z + 2^24 is small
+small : (c : tie.After-raised) → c .raised .result < 2 ^ 25
+small c = raised-small (c .before .args .z) (c .before .fits .z) (c .before .pre .2) (c .raised .result) (c .raised .ensures)
 
-of-negated-requires : tie.Need-of-negated-requires
-of-negated-requires c κs = remainder-below _ (size c) (c .before .before .pre .0)
+add-reduce-product : tie.Need-add-reduce-product
+add-reduce-product c = record { fits = omega (arith, small c) }
+
+reduce-product-requires : tie.Need-reduce-product-requires
+reduce-product-requires c κs = (omega (arith, small c), c .before .pre .0)
 
 returns : tie.Need-returns
 returns c =
-    let start = c .before .before .before .before in
-    c .before .of-negated .ensures
-    ∙ ap (λ (s : ℕ). (start .args .q - s) % start .args .q) (size (c .before .before))
-    ∙ stored-negative (start .args .z) (start .fits .z) (start .pre .2) (c .if1 .taken) (start .args .q)
-
-returns-2 : tie.Need-returns-2
-returns-2 c =
-    let start = c .before .before .before .before in
-    size (c .before .before) ∙ stored-natural (start .args .z) (start .fits .z) (start .pre .2) (c .if1 .left) (start .args .q)
+    let start = c .before .before in
+    let raised = c .before .raised .ensures ∙ ap (λ (z : ℤ). z +ℤ pos (2 ^ 24)) (toZ-ofZ w32 (start .args .z) (start .fits .z)) in
+    c .reduce-product .ensures ∙ raised-residue (start .args .q) (c .before .raised .result) (start .args .z) (start .pre .0) raised
 
 pub of-signed-spec : {M : Type 1} → statement M
 of-signed-spec =
-    tie.close (tie.spec (λ c κs. search needs) (λ c. search needs) (λ c κs. search needs) of-negated-requires returns returns-2)
+    tie.close (tie.spec (λ c κs. search needs) (λ c. search needs) (λ c. search needs) (λ c. search needs) add-reduce-product reduce-product-requires returns)

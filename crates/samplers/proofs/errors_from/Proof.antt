@@ -2,7 +2,7 @@
 -- Assumes nothing.
 use mathlib.Core.Path.{_∙_}
 use native.Mathlib.Omega.{arith}
-use Rattle.samplers.proofs.Part.{part-length}
+use Rattle.calls.proofs.Parts.{array-front}
 use borrow.Author.Needs.{needs}
 use Rattle.samplers.proofs.errors_from.Statement.{statement}
 use Rattle.samplers.proofs.errors_from.Tie as tie
@@ -11,7 +11,7 @@ errors-through-requires : tie.Need-errors-through-requires
 errors-through-requires c κs =
     let size = c .before .before .error-draw-bytes in
     let pre = c .before .before .before .before .before .pre in
-    (pre .0, pre .1, pre .2, part-length 10240 (size .result) (omega (arith, size .ensures, pre .1 .most-error-bytes)) ∙ size .ensures, pre .3)
+    (pre .0, pre .1, pre .2, array-front 10240 (size .result) (omega (arith, size .ensures, pre .1 .most-error-bytes)) ∙ size .ensures, pre .3)
 
 pub errors-from-spec : {M : Type 1} → statement M
 errors-from-spec =

@@ -2,7 +2,7 @@
 -- Assumes nothing.
 use mathlib.Core.Path.{_∙_}
 use native.Mathlib.Omega.{arith}
-use Rattle.samplers.proofs.Part.{part-length}
+use Rattle.calls.proofs.Parts.{array-front}
 use borrow.Author.Needs.{needs}
 use Rattle.samplers.proofs.multipliers_from.Statement.{statement}
 use Rattle.samplers.proofs.multipliers_from.Tie as tie
@@ -11,7 +11,7 @@ multipliers-through-requires : tie.Need-multipliers-through-requires
 multipliers-through-requires c κs =
     let size = c .before .before .multiplier-draw-bytes in
     let pre = c .before .before .before .before .before .pre in
-    (pre .0, pre .1, pre .2, part-length 15232 (size .result) (omega (arith, size .ensures, pre .1 .most-multiplier-bytes)) ∙ size .ensures, pre .3)
+    (pre .0, pre .1, pre .2, array-front 15232 (size .result) (omega (arith, size .ensures, pre .1 .most-multiplier-bytes)) ∙ size .ensures, pre .3)
 
 pub multipliers-from-spec : {M : Type 1} → statement M
 multipliers-from-spec =

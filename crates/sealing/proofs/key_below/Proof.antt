@@ -4,7 +4,8 @@ use mathlib.Core.Path.{sym}
 use Prim.Native.Nat.{_*_, _≤_}
 use native.Mathlib.Omega.{arith}
 use lib.ListN.{length}
-use Rattle.sealing.proofs.Multiplied.{front-length, rules-of, byteRules-of}
+use Rattle.calls.proofs.Parts.{front-length}
+use Rattle.sets.proofs.Rules.{rules-of, byteRules-of}
 use Rattle.sealing.proofs.Sealed.{ends, key-answer}
 use borrow.Author.Needs.{needs}
 use Rattle.sealing.proofs.key_below.Statement.{statement}

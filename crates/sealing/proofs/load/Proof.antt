@@ -8,7 +8,8 @@ use lib.ListN.{length, take, drop}
 use Rattle.sets.specs.Table.{setOf}
 use Rattle.scheme.specs.Answers.{allBelow}
 use Rattle.scheme.specs.Encryption.{keyNumbers}
-use Rattle.sealing.proofs.Multiplied.{front-length, rules-of, byteRules-of}
+use Rattle.calls.proofs.Parts.{front-length}
+use Rattle.sets.proofs.Rules.{rules-of, byteRules-of}
 use Rattle.sealing.proofs.Sealed.{back-length, part-long, ends, key-numbers, key-answer, loaded}
 use borrow.Author.Needs.{needs}
 use Rattle.sealing.proofs.load.Statement.{statement}

@@ -6,7 +6,7 @@ use native.Mathlib.Omega.{arith}
 use lib.ListN.{length}
 use Rattle.sets.specs.Table.{setOf}
 use Rattle.sealing.specs.Parts.{KeyResidues}
-use Rattle.sealing.proofs.Multiplied.{rules-of}
+use Rattle.sets.proofs.Rules.{rules-of}
 use Rattle.sealing.proofs.Sealed.{ends, key-residues, drawn-multipliers, sums-sealed, held-numbers, held-multipliers}
 use borrow.Author.Needs.{needs}
 use Rattle.sealing.proofs.numbers_before_packing.Statement.{statement}

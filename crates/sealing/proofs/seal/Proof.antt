@@ -8,7 +8,8 @@ use lib.ListN.{length}
 use Rattle.calls.proofs.Outcome.{refused-call}
 use Rattle.sets.specs.Table.{setOf}
 use Rattle.sealing.specs.Parts.{KeyResidues}
-use Rattle.sealing.proofs.Multiplied.{front-length, rules-of}
+use Rattle.calls.proofs.Parts.{front-length}
+use Rattle.sets.proofs.Rules.{rules-of}
 use Rattle.sealing.proofs.Sealed.{ends, key-residues, drawn-multipliers, numbers-refused, draws-decide, held-numbers, held-multipliers}
 use borrow.Author.Needs.{needs}
 use Rattle.sealing.proofs.seal.Statement.{statement}

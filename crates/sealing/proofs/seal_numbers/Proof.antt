@@ -8,7 +8,8 @@ use lib.ListN.{length, take, drop}
 use Rattle.calls.specs.Outcome.{outcome}
 use Rattle.sets.specs.Table.{setOf}
 use Rattle.scheme.specs.Encryption.{secondBytes}
-use Rattle.sealing.proofs.Multiplied.{front-length, rules-of}
+use Rattle.calls.proofs.Parts.{front-length}
+use Rattle.sets.proofs.Rules.{rules-of}
 use Rattle.sealing.proofs.Sealed.{back-length, rest-length, front-refused, both-accepted, ends}
 use borrow.Author.Needs.{needs}
 use Rattle.sealing.proofs.seal_numbers.Statement.{statement}

@@ -4,7 +4,8 @@ use mathlib.Core.Path.{sym, _∙_}
 use native.Mathlib.Omega.{arith}
 use Rattle.sets.specs.Table.{setOf}
 use Rattle.transformed.proofs.Vectors.{sentInverse-placed}
-use Rattle.transformed_middle.proofs.Middle.{third-size, reversed-placed, middle-correlated}
+use Rattle.sets.proofs.Transforms.{third-size}
+use Rattle.transformed_middle.proofs.Middle.{reversed-placed, middle-correlated}
 use borrow.Author.Needs.{needs}
 use Rattle.transformed_middle.proofs.correlate_stored.Statement.{statement}
 use Rattle.transformed_middle.proofs.correlate_stored.Tie as tie

@@ -4,7 +4,7 @@ use native.Mathlib.Omega.{arith}
 use lib.ListN.{length-take, length-drop}
 use Rattle.sets.specs.Table.{setOf}
 use Rattle.sets.proofs.Rules.{rules}
-use Rattle.transformed_middle.proofs.Middle.{third-size}
+use Rattle.sets.proofs.Transforms.{third-size}
 use borrow.Author.Needs.{needs}
 use Rattle.transformed_middle.proofs.fill.Statement.{statement}
 use Rattle.transformed_middle.proofs.fill.Tie as tie

@@ -4,7 +4,8 @@ use mathlib.Core.Path.{ap, _∙_}
 use native.Mathlib.Omega.{arith}
 use Rattle.sets.specs.Table.{setOf}
 use Rattle.transformed.specs.Stored.{sentInverse}
-use Rattle.transformed_middle.proofs.Middle.{front, front-placed}
+use Rattle.calls.proofs.Parts.{front}
+use Rattle.transformed.proofs.Front.{front-placed}
 use borrow.Author.Needs.{needs}
 use Rattle.transformed_middle.proofs.store.Statement.{statement}
 use Rattle.transformed_middle.proofs.store.Tie as tie
@@ -13,7 +14,7 @@ send-first-inverse-requires : tie.Need-send-first-inverse-requires
 send-first-inverse-requires c κs =
     let start = c .before .before .before .before .before .before .before .before .before .before .before .before .before in
     let pre = start .pre in
-    (pre .0, c .before .before .before .before .before .before .before .before .load-inverse-powers .ensures, rw (c .before .before .before .before .copy-in .ensures) (front-placed (start .args .set) (pre .0) 3 (start .args .work .now) (start .args .b .now) (pre .2) (pre .3) (pre .4)))
+    (pre .0, c .before .before .before .before .before .before .before .before .load-inverse-powers .ensures, rw (c .before .before .before .before .copy-in .ensures) (front-placed (start .args .set) 3 (start .args .work .now) (start .args .b .now) (pre .2) (pre .3) (pre .4)))
 
 returns : tie.Need-returns
 returns c =

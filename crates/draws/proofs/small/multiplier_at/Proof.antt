@@ -7,7 +7,7 @@ use mir.Val.{SFits}
 use mir.Facts.{toZ-ofZ}
 use Rattle.sets.specs.Derived.{multiplierBytes}
 use Rattle.draws.specs.Small.{multiplierAt}
-use Rattle.draws.proofs.Positions.{place-most, lent-true, bits-most}
+use Rattle.draws.proofs.Positions.{place-most, lent-true, bits-most, sign-bit-most}
 use borrow.Author.Needs.{needs}
 use Rattle.draws.proofs.small.multiplier_at.Statement.{statement}
 use Rattle.draws.proofs.small.multiplier_at.Tie as tie
@@ -33,7 +33,7 @@ sign-at-requires c κs =
 multiplier-of-requires : tie.Need-multiplier-of-requires
 multiplier-of-requires c κs =
     let start = c .before .before .before .before .before .before in
-    rw (c .multiplier-bits .ensures) (bits-most (start .args .p) (start .pre .0) (start .args .position))
+    rw (c .multiplier-bits .ensures, c .before .sign-at .ensures) (bits-most (start .args .p) (start .pre .0) (start .args .position), sign-bit-most _ _ _)
 
 returns : tie.Need-returns
 unfolding multiplierAt

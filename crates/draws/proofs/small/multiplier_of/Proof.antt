@@ -1,23 +1,26 @@
--- `draws::small::multiplier_of` meets its contract: a small size and its negative fit the signed width.
+-- `draws::small::multiplier_of` meets its contract: twice the size, subtracted or not, gives both signs.
 -- Assumes nothing.
 use native.Mathlib.Omega.{arith}
-use Rattle.draws.proofs.Bits.{pos-fits, negative-fits, negative-is, positive-is}
+use Rattle.draws.proofs.Bits.{pos-fits, doubled-most, multiplier-fits, multiplier-is}
 use borrow.Author.Needs.{needs}
 use Rattle.draws.proofs.small.multiplier_of.Statement.{statement}
 use Rattle.draws.proofs.small.multiplier_of.Tie as tie
 
-cast-size : tie.Need-cast-size
-cast-size c = pos-fits (omega arith)
+mul-result : tie.Need-mul-result-2
+mul-result c = omega (arith, doubled-most _ _ _ _ (c .low-bits .ensures .0) (c .low-bits .ensures .1) (c .before .pre .1))
 
 sub-result : tie.Need-sub-result
-sub-result c = negative-fits _ _ 1 _ (c .before .low-bits .ensures .0) (c .before .low-bits .ensures .1)
+sub-result c = doubled-most _ _ _ _ (c .low-bits .ensures .0) (c .low-bits .ensures .1) (c .before .pre .1)
+
+cast-result : tie.Need-cast-result
+cast-result c = pos-fits (omega arith)
+
+lowered : tie.Need-sub-result-2
+lowered c = multiplier-fits _ _ _ _ (c .low-bits .ensures .0) (c .low-bits .ensures .1) (c .before .pre .1)
 
 returns : tie.Need-returns
-returns c = negative-is _ _ _ _ (c .before .low-bits .ensures .0) (c .before .low-bits .ensures .1) (c .if1 .taken)
-
-returns-2 : tie.Need-returns-2
-returns-2 c = positive-is _ _ _ _ (c .before .low-bits .ensures .0) (c .before .low-bits .ensures .1) (c .if1 .left)
+returns c = multiplier-is _ _ _ _ (c .low-bits .ensures .0) (c .low-bits .ensures .1) (c .before .pre .1)
 
 pub multiplier-of-spec : {M : Type 1} → statement M
 multiplier-of-spec =
-    tie.close (tie.spec (λ c κs. search needs) (λ c. omega arith) cast-size sub-result returns returns-2)
+    tie.close (tie.spec (λ c κs. search needs) (λ c. omega arith) (λ c. omega arith) (λ c. omega arith) mul-result sub-result cast-result lowered returns)

@@ -6,7 +6,7 @@ use native.Mathlib.Omega.{arith}
 use lib.ListN.{length}
 use Rattle.calls.specs.Outcome.{outcome}
 use Rattle.sets.specs.Table.{setOf}
-use Rattle.sealing.proofs.Multiplied.{front-length}
+use Rattle.calls.proofs.Parts.{front-length}
 use Rattle.sealing.proofs.Sealed.{front-refused}
 use Rattle.exchange.proofs.Steps.{sealed-whole}
 use borrow.Author.Needs.{needs}

@@ -13,7 +13,7 @@ use Rattle.packing.specs.Digits.{pack}
 use Rattle.packing.proofs.Digits.{pack-length}
 use Rattle.keying.specs.Held.{vectorsStart}
 use Rattle.keying.proofs.Room.{seed-room, vectors-room, work-most}
-use Rattle.keying.proofs.Parts.{part-length, two-parts}
+use Rattle.calls.proofs.Parts.{part-length, two-parts}
 use borrow.Author.Needs.{needs}
 use Rattle.keying.proofs.bytes.write_public_key.Statement.{statement}
 use Rattle.keying.proofs.bytes.write_public_key.Tie as tie

@@ -9,7 +9,8 @@ use Rattle.sets.specs.declared.Parameters.{Parameters}
 use Rattle.sets.specs.Table.{setOf}
 use Rattle.samplers.specs.Blocks.{onward}
 use Rattle.samplers.specs.Seeded.{publicDrawn}
-use Rattle.keying.proofs.Drawn.{true-false, advanced, stopped, one-refused, refuse-taken, refuse-not-taken}
+use Rattle.scheme.proofs.Taken.{allTaken-false}
+use Rattle.keying.proofs.Drawn.{true-false, advanced, stopped, refuse-taken, refuse-not-taken}
 use Rattle.keying.proofs.KeyVectors.{Vectors, vectors-none, vectors-more, held-still}
 use borrow.Author.Needs.{needs}
 use Rattle.keying.proofs.vectors.all_vectors.Statement.{statement}
@@ -43,7 +44,7 @@ returns c =
     let turn = c .before .before .before .before .before .before .before .before .before .before .loop in
     let below : turn .i < setOf set .t = omega (arith, c .before .before .before .before .before .before .before .before .before .loop-test .taken, ap (λ (p : Parameters). p .t) (c .before .before .before .before .before .before .before .before .before .before .before .parameters-of .ensures)) in
     let none = stopped _ _ (publicDrawn (setOf set) seed (turn .i)) (sym (ap onward (c .enum-told .given .1)) ∙ c .before .before .before .before .before .before .next-vector .ensures .0) in
-    let one = one-refused (setOf set .t) (turn .i) (publicDrawn (setOf set) seed) below (none .not-taken) in
+    let one = allTaken-false (setOf set .t) (publicDrawn (setOf set) seed) (turn .i) below (none .not-taken) in
     (sym (refuse-not-taken accepted one), λ t. absurd (true-false t one))
 
 loop-again : tie.Need-loop-again Inv-loop μ-loop

@@ -11,9 +11,11 @@ use Rattle.sets.proofs.Rules.{rules, byteRules}
 use Rattle.samplers.specs.Seeded.{publicDrawn}
 use Rattle.samplers.proofs.Answers.{publicCounter-most}
 use Rattle.scheme.specs.Encryption.{publicPolynomial}
-use Rattle.keying.proofs.Room.{third-size, counter-short}
-use Rattle.keying.proofs.Parts.{front-length}
-use Rattle.keying.proofs.Drawn.{taken-numbers, public-answer, public-draw}
+use Rattle.sets.proofs.Transforms.{third-size}
+use Rattle.keying.proofs.Room.{counter-short}
+use Rattle.calls.proofs.Parts.{front-length}
+use Rattle.scheme.proofs.Taken.{taken-numbers}
+use Rattle.keying.proofs.Drawn.{public-answer, public-draw}
 use borrow.Author.Needs.{needs}
 use Rattle.keying.proofs.vectors.draw_polynomial.Statement.{statement}
 use Rattle.keying.proofs.vectors.draw_polynomial.Tie as tie

@@ -6,8 +6,9 @@ use native.Mathlib.Omega.{arith}
 use lib.ListN.{take}
 use Rattle.sets.specs.Table.{setOf}
 use Rattle.sets.proofs.Rules.{rules}
-use Rattle.keying.proofs.Room.{third-size, errors-short, errors-room, vectors-room, secret-room}
-use Rattle.keying.proofs.Parts.{front-part}
+use Rattle.sets.proofs.Transforms.{third-size}
+use Rattle.keying.proofs.Room.{errors-short, errors-room, vectors-room, secret-room}
+use Rattle.calls.proofs.Parts.{front-part}
 use Rattle.keying.proofs.KeyVectors.{secret-placed, errors-part, errors-length, errors-below, key-vector}
 use borrow.Author.Needs.{needs}
 use Rattle.keying.proofs.vectors.key_vector.Statement.{statement}

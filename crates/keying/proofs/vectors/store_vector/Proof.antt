@@ -6,8 +6,9 @@ use native.Mathlib.Omega.{arith}
 use lib.ListN.{length}
 use Rattle.sets.specs.Table.{setOf}
 use Rattle.sets.proofs.Rules.{rules}
-use Rattle.keying.proofs.Room.{first-size, third-size, vector-short, vector-room}
-use Rattle.keying.proofs.Parts.{front-length}
+use Rattle.sets.proofs.Transforms.{first-size, third-size}
+use Rattle.keying.proofs.Room.{vector-short, vector-room}
+use Rattle.calls.proofs.Parts.{front-length}
 use Rattle.keying.proofs.KeyVectors.{copied-placed, copied-stored}
 use borrow.Author.Needs.{needs}
 use Rattle.keying.proofs.vectors.store_vector.Statement.{statement}

@@ -3,7 +3,7 @@
 use mathlib.Core.Path.{_∙_}
 use native.Mathlib.Omega.{arith}
 use Rattle.sets.proofs.Transforms.{size-most}
-use Rattle.samplers.proofs.Part.{part-length}
+use Rattle.calls.proofs.Parts.{array-front}
 use borrow.Author.Needs.{needs}
 use Rattle.keying.proofs.vectors.store_vectors.Statement.{statement}
 use Rattle.keying.proofs.vectors.store_vectors.Tie as tie
@@ -23,8 +23,8 @@ vectors-through-requires c κs =
     let pre = start .pre in
     let third = c .before .before .before .before .before .size-of in
     let first = c .before .before .before .before .size-of2 in
-    let long = part-length 3328 (third .result) (omega (arith, third .ensures, size-most (start .args .set) (pre .1) 3)) ∙ third .ensures in
-    (pre .0, pre .1, pre .2, long, part-length 3328 (first .result) (omega (arith, first .ensures, size-most (start .args .set) (pre .1) 1)) ∙ first .ensures, long, pre .3)
+    let long = array-front 3328 (third .result) (omega (arith, third .ensures, size-most (start .args .set) (pre .1) 3)) ∙ third .ensures in
+    (pre .0, pre .1, pre .2, long, array-front 3328 (first .result) (omega (arith, first .ensures, size-most (start .args .set) (pre .1) 1)) ∙ first .ensures, long, pre .3)
 
 pub store-vectors-spec : {M : Type 1} → statement M
 store-vectors-spec =

@@ -8,7 +8,7 @@ use borrow.Author.Tests.{not-true, not-false}
 use lib.ListN.{replicate}
 use Rattle.calls.specs.Outcome.{accepted}
 use Rattle.calls.proofs.Outcome.{refuse-true, refuse-false, refused-call, accepted-call}
-use Rattle.sealing.proofs.Multiplied.{rules-of, byteRules-of}
+use Rattle.sets.proofs.Rules.{rules-of, byteRules-of}
 use Rattle.sealing.proofs.Adding.{total-digits, first-packed}
 use borrow.Author.Needs.{needs}
 use Rattle.sealing.proofs.first.first_through.Statement.{statement}

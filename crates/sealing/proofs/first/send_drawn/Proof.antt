@@ -7,7 +7,8 @@ use lib.ListN.{length, take, drop}
 use Rattle.sets.specs.Table.{setOf}
 use Rattle.draws.specs.Uniform.{taken}
 use Rattle.samplers.specs.Blocks.{uniform, onward}
-use Rattle.sealing.proofs.Multiplied.{front-length, rules-of, byteRules-of}
+use Rattle.calls.proofs.Parts.{front-length}
+use Rattle.sets.proofs.Rules.{rules-of, byteRules-of}
 use Rattle.sealing.proofs.Adding.{polynomial-fits, answer-set, drawn-numbers, drawn-refused, drawn-placed, drawn-sent}
 use borrow.Author.Needs.{needs}
 use Rattle.sealing.proofs.first.send_drawn.Statement.{statement}

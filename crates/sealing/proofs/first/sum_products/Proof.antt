@@ -7,7 +7,7 @@ use lib.ListN.{length}
 use Rattle.sets.specs.declared.Parameters.{Parameters}
 use Rattle.sets.specs.Table.{setOf}
 use Rattle.samplers.specs.Blocks.{onward}
-use Rattle.sealing.proofs.Multiplied.{rules-of}
+use Rattle.sets.proofs.Rules.{rules-of}
 use Rattle.sealing.proofs.Adding.{Adding, adding-none, adding-more, adding-addends, adding-all, sampled, sampled-refused, counter-small}
 use borrow.Author.Needs.{needs}
 use Rattle.sealing.proofs.first.sum_products.Statement.{statement}

@@ -3,7 +3,7 @@
 use native.Mathlib.Omega.{arith}
 use lib.ListN.{length}
 use Rattle.packing.proofs.Message.{messageBits-below}
-use Rattle.sealing.proofs.Multiplied.{rules-of}
+use Rattle.sets.proofs.Rules.{rules-of}
 use Rattle.sealing.proofs.Correlating.{message-added}
 use borrow.Author.Needs.{needs}
 use Rattle.sealing.proofs.second.add_message.Statement.{statement}

@@ -3,8 +3,8 @@
 use mathlib.Core.Path.{ap, _∙_}
 use native.Mathlib.Omega.{arith}
 use Rattle.sets.specs.declared.Parameters.{Parameters}
-use Rattle.samplers.proofs.Part.{part-length}
-use Rattle.sealing.proofs.Multiplied.{rules-of}
+use Rattle.calls.proofs.Parts.{array-front}
+use Rattle.sets.proofs.Rules.{rules-of}
 use borrow.Author.Needs.{needs}
 use Rattle.sealing.proofs.second.seal_second.Statement.{statement}
 use Rattle.sealing.proofs.second.seal_second.Tie as tie
@@ -17,7 +17,7 @@ second-through-requires c κs =
     let start = c .before .before .before .before .before .before .before in
     let pre = start .pre in
     let e = c .before .before .parameters-of .ensures in
-    let long = part-length 256 (c .before .before .parameters-of .result .d) (rules-of (start .args .set) (pre .1) _ e .most-d) ∙ ap (λ (r : Parameters). r .d) e in
+    let long = array-front 256 (c .before .before .parameters-of .result .d) (rules-of (start .args .set) (pre .1) _ e .most-d) ∙ ap (λ (r : Parameters). r .d) e in
     (pre .0, pre .1, pre .2, pre .3, pre .4, long)
 
 pub seal-second-spec : {M : Type 1} → statement M

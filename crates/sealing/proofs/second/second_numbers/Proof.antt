@@ -3,7 +3,7 @@
 use mathlib.Core.Path.{_∙_}
 use native.Mathlib.Omega.{arith}
 use Rattle.sets.proofs.Transforms.{size-most}
-use Rattle.samplers.proofs.Part.{part-length}
+use Rattle.calls.proofs.Parts.{array-front}
 use borrow.Author.Needs.{needs}
 use Rattle.sealing.proofs.second.second_numbers.Statement.{statement}
 use Rattle.sealing.proofs.second.second_numbers.Tie as tie
@@ -22,7 +22,7 @@ numbers-through-requires c κs =
     let start = c .before .before .before .before .before .before .before .before .before in
     let pre = start .pre in
     let size = c .before .before .before .before .size-of in
-    let long = part-length 3328 (size .result) (omega (arith, size .ensures, size-most (start .args .set) (pre .1) 1)) ∙ size .ensures in
+    let long = array-front 3328 (size .result) (omega (arith, size .ensures, size-most (start .args .set) (pre .1) 1)) ∙ size .ensures in
     (pre .0, pre .1, pre .2, pre .3, pre .4, long, long, long)
 
 pub second-numbers-spec : {M : Type 1} → statement M

@@ -2,7 +2,7 @@
 -- Assumes nothing.
 use mathlib.Core.Path.{_∙_}
 use native.Mathlib.Omega.{arith}
-use Rattle.sealing.proofs.Multiplied.{rules-of, byteRules-of}
+use Rattle.sets.proofs.Rules.{rules-of, byteRules-of}
 use Rattle.sealing.proofs.Correlating.{second-digits, second-packed}
 use borrow.Author.Needs.{needs}
 use Rattle.sealing.proofs.second.second_through.Statement.{statement}

@@ -6,7 +6,7 @@ use native.Mathlib.Omega.{arith}
 use lib.ListN.{length}
 use Rattle.sets.specs.declared.Parameters.{Parameters}
 use Rattle.sets.specs.Table.{setOf}
-use Rattle.sealing.proofs.Multiplied.{rules-of}
+use Rattle.sets.proofs.Rules.{rules-of}
 use Rattle.sealing.proofs.Correlating.{Correlating, key-room, key-part, correlating-none, correlating-more, correlating-addends, correlating-all}
 use borrow.Author.Needs.{needs}
 use Rattle.sealing.proofs.second.sum_stored.Statement.{statement}

@@ -5,7 +5,8 @@ use Prim.Native.Nat.{_≤_}
 use native.Mathlib.Omega.{arith}
 use lib.ListN.{length}
 use Rattle.scheme.specs.Answers.{workLength}
-use Rattle.sealing.proofs.Multiplied.{front-length, rules-of}
+use Rattle.calls.proofs.Parts.{front-length}
+use Rattle.sets.proofs.Rules.{rules-of}
 use Rattle.sheet.proofs.SheetLaws.{work-most, input-long, lent-length, bench-lengths, bench-filled, seeded-filled}
 use borrow.Author.Needs.{needs}
 use Rattle.sheet.proofs.rows.fill.Statement.{statement}

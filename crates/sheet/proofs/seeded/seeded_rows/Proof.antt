@@ -6,7 +6,7 @@ use native.Mathlib.Omega.{arith}
 use borrow.Author.Needs.{needs}
 use Rattle.sets.specs.Derived.{publicKeyBytes, sealedBytes}
 use Rattle.sets.specs.Rules.{Rules}
-use Rattle.sealing.proofs.Multiplied.{rules-of}
+use Rattle.sets.proofs.Rules.{rules-of}
 use Rattle.sheet.proofs.SheetLaws.{part-length}
 use Rattle.sheet.proofs.seeded.seeded_rows.Statement.{statement}
 use Rattle.sheet.proofs.seeded.seeded_rows.Tie as tie

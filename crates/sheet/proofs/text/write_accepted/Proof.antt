@@ -3,7 +3,7 @@
 use mathlib.Core.Path.{ap, ap₂, _∙_}
 use Prim.Native.Nat.{ℕ}
 use Rattle.sets.specs.Derived.{halfModulus}
-use Rattle.sealing.proofs.Multiplied.{rules-of}
+use Rattle.sets.proofs.Rules.{rules-of}
 use Rattle.sheet_text.specs.Text.{sheetText}
 use Rattle.sheet.specs.Sheet.{ceiling}
 use Rattle.sheet.proofs.SheetLaws.{printed-as}

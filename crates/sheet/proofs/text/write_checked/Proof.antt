@@ -5,7 +5,7 @@ use Prim.Native.Nat.{_≤_}
 use native.Mathlib.Omega.{arith}
 use lib.IntN.{pos}
 use Rattle.sets.specs.declared.Parameters.{Parameters}
-use Rattle.sealing.proofs.Multiplied.{rules-of}
+use Rattle.sets.proofs.Rules.{rules-of}
 use Rattle.sheet.proofs.SheetLaws.{part-length}
 use borrow.Author.Needs.{needs}
 use Rattle.sheet.proofs.text.write_checked.Statement.{statement}

@@ -1,0 +1,25 @@
+-- `seeded::run` ends.
+-- Assumes nothing.
+use Prim.Native.Nat.{_-_, _≤_}
+use borrow.Author.Needs.{needs}
+use Rattle.run_bytes.proofs.seeded.run.Statement.{statement}
+use Rattle.run_bytes.proofs.seeded.run.Tie as tie
+
+abbrev Inv-loop : tie.InvT-loop
+Inv-loop set₀ set = set ≤ 13
+
+abbrev μ-loop : tie.MeasureT-loop
+μ-loop set₀ set = 13 - set
+
+pub run-spec : {M : Type 1} → statement M
+run-spec =
+    tie.close
+    (tie.spec
+    Inv-loop
+    μ-loop
+    (λ c. search needs)
+    (λ c κs. search needs)
+    (λ c. search needs)
+    (λ c. search needs)
+    (λ c. search needs)
+    (λ c. search needs))

@@ -1,0 +1,124 @@
+// Random numbers, bytes, residues and signed numbers, the same for each run: a number is found from where it is wanted, so it rests on no answer.
+ghost use Prim.Native.Nat.{_<_};
+
+// The number after x in the generator.
+fn after(x: u64) -> u64
+    requires { ⌜ x < 2147483648 ⌝ }
+    ensures { λ r. ⌜ r < 2147483648 ⌝ }
+{
+    (x * 1103515245 + 12345) % 2147483648
+}
+
+// A number of 31 bits with its upper 16 bits and its lower 15 exchanged, so that the lower ones are mixed too.
+fn exchanged(x: u64) -> u64
+    requires { ⌜ x < 2147483648 ⌝ }
+    ensures { λ r. ⌜ r < 2147483648 ⌝ }
+{
+    (x / 32768 + (x % 32768) * 65536) % 2147483648
+}
+
+// Where number `i` for slice `slice` of a group of calls begins.
+fn start(group: usize, slice: usize, i: usize) -> u64
+    ensures { λ r. ⌜ r < 2147483648 ⌝ }
+{
+    ((i % 65536 * 32768 + slice % 32 * 1024 + group % 1024) % 2147483648) as u64
+}
+
+// Number `i` for slice `slice` of a group of calls, of 24 bits.
+fn number(group: usize, slice: usize, i: usize) -> usize
+    ensures { λ r. ⌜ r < 16777216 ⌝ }
+{
+    let first = after(exchanged(after(start(group, slice, i))));
+    (after(exchanged(first)) / 128 % 16777216) as usize
+}
+
+// Choice `i` of a group of calls, a number below a limit.
+pub fn below(group: usize, i: usize, limit: usize) -> usize {
+    if limit == 0 {
+        return 0;
+    }
+    number(group, 0, i) % limit
+}
+
+// A set from 0 to 14.
+pub fn set(group: usize, i: usize) -> usize {
+    below(group, i, 15)
+}
+
+// A set, most often one of the six from `first` on.
+pub fn set_from(group: usize, i: usize, first: usize) -> usize {
+    let any = below(group, i, 15);
+    if below(group, i % 1000 + 1, 4) == 0 {
+        any
+    } else {
+        any % 6 + first % 16
+    }
+}
+
+// A length of slice number `slice`; it is wrong where the change of the call says so: one more or one less as in the report, or 0.
+pub fn length(right: usize, slice: usize, change: usize) -> usize {
+    if change == slice % 1000 + 20 {
+        0
+    } else {
+        report::changed(right, slice, change)
+    }
+}
+
+// The lowest eight bits of a number.
+fn low_byte(x: usize) -> u8 {
+    (x % 256) as u8
+}
+
+// Fills bytes.
+pub fn fill(values: &mut [u8], group: usize, slice: usize) {
+    let mut i: usize = 0;
+    while i < values.len() {
+        values[i] = low_byte(number(group, slice, i));
+        i += 1;
+    }
+}
+
+// The residue of a number modulo q.
+fn residue(x: usize, q: usize) -> u32 {
+    if q == 0 {
+        return 0;
+    }
+    (x % q % 16777216) as u32
+}
+
+// Fills numbers with residues modulo q.
+pub fn fill_residues(values: &mut [u32], group: usize, slice: usize, q: usize) {
+    let mut i: usize = 0;
+    while i < values.len() {
+        values[i] = residue(number(group, slice, i), q);
+        i += 1;
+    }
+}
+
+// A number of at most 4,095 with a minus sign.
+pub fn negative(x: usize) -> i32 {
+    let z = (x % 4096) as i32;
+    0 - z
+}
+
+// A signed number of at most a size, made from a number; `zero` stands for 0.
+fn around(x: usize, size: usize, zero: i32) -> i32 {
+    let bound = size % 1024;
+    let shifted = x % (2 * bound + 1);
+    if shifted < bound {
+        return negative(bound - shifted);
+    }
+    if shifted == bound {
+        return zero;
+    }
+    ((shifted - bound) % 4096) as i32
+}
+
+// Fills numbers with signed ones of at most a size; `zero` stands for 0.
+pub fn fill_signed(values: &mut [i32], group: usize, slice: usize, size: usize, zero: i32) {
+    let mut i: usize = 0;
+    while i < values.len() {
+        values[i] = around(number(group, slice, i), size, zero);
+        i += 1;
+    }
+}
