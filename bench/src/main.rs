@@ -32,10 +32,12 @@ fn compare(name: &str, rounds: u32, mut proved: impl FnMut(), mut rust: impl FnM
 fn bytes() {
     let (long, key) = (vec![7u8; 65536], [9u8; 32]);
     let (mut out, mut other) = (vec![0u8; 65536], vec![0u8; 65536]);
-    compare("SHAKE256 absorbing 64 KiB", 20, || proved::shake256(black_box(&long), &mut out[..32]), || sponge::shake256(black_box(&long), &mut other[..32]));
-    compare("SHAKE256 squeezing 64 KiB", 20, || proved::shake256(black_box(&key), &mut out), || sponge::shake256(black_box(&key), &mut other));
-    compare("KMACXOF256 absorbing 64 KiB", 20, || proved::kmacxof256(&key, black_box(&long), &mut out[..32]), || sponge::kmacxof256(&key, black_box(&long), b"", &mut other[..32]));
-    compare("KMACXOF256 squeezing 64 KiB", 20, || proved::kmacxof256(&key, black_box(&key), &mut out), || sponge::kmacxof256(&key, black_box(&key), b"", &mut other));
+    let shake = |input: &[u8], out: &mut [u8]| titanium::shake256(black_box(input), out).unwrap();
+    let kmac = |input: &[u8], out: &mut [u8]| titanium::kmacxof256(&key, black_box(input), b"", out).unwrap();
+    compare("SHAKE256 absorbing 64 KiB", 20, || shake(&long, &mut out[..32]), || sponge::shake256(black_box(&long), &mut other[..32]));
+    compare("SHAKE256 squeezing 64 KiB", 20, || shake(&key, &mut out), || sponge::shake256(black_box(&key), &mut other));
+    compare("KMACXOF256 absorbing 64 KiB", 20, || kmac(&long, &mut out[..32]), || sponge::kmacxof256(&key, black_box(&long), b"", &mut other[..32]));
+    compare("KMACXOF256 squeezing 64 KiB", 20, || kmac(&key, &mut out), || sponge::kmacxof256(&key, black_box(&key), b"", &mut other));
     assert_eq!(out, other);
 }
 
@@ -73,7 +75,9 @@ fn products(number: usize) {
     let (a, b) = (residues(s.q, size - results + 1), residues(s.q, size));
     let (mut out, mut other, mut work) = (vec![0; results], vec![0; results], vec![0; size]);
     let name = format!("set {number} middle product: transformed, plain");
-    compare(&name, 2, || assert_eq!(proved::transformed_middle(number, &a, black_box(&b), &mut out, &mut work), 0), || assert_eq!(proved::middle(number, &a, black_box(&b), &mut other), 0));
+    let mut transformed = || titanium::transformed_middle_product(number, &a, black_box(&b), &mut out, &mut work).unwrap();
+    let mut plain = || titanium::middle_product(number, &a, black_box(&b), &mut other).unwrap();
+    compare(&name, 2, &mut transformed, &mut plain);
     assert_eq!(out, other);
 }
 

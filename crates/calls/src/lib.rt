@@ -78,3 +78,15 @@ pub fn copy_within(work: &mut [u32], from: usize, to: usize, n: usize)
         i += 1;
     }
 }
+
+// Copies bytes into the places from `at` on.
+pub fn copy_at(dst: &mut [u8], at: usize, src: &[u8])
+    requires { ⌜ at + length (now src) ≤ length (now dst) ⌝ }
+    ensures { λ _. ⌜ now (dst .exit) ≡ over (now (dst .entry)) at (now (src .entry)) ⌝ }
+{
+    let mut i: usize = 0;
+    while i < src.len() {
+        dst[at + i] = src[i];
+        i += 1;
+    }
+}

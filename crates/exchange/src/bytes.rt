@@ -7,25 +7,13 @@ ghost use lib.ListN.{length, drop};
 ghost use Rattle.calls.specs.Region.{over};
 ghost use Rattle.scheme.specs.Exchange.{same, sharedHash};
 
-// Copies `src` into the places from `at` on.
-pub fn copy_at(dst: &mut [u8], at: usize, src: &[u8])
-    requires { ⌜ at + length (now src) ≤ length (now dst) ⌝ }
-    ensures { λ _. ⌜ now (dst .exit) ≡ over (now (dst .entry)) at (now (src .entry)) ⌝ }
-{
-    let mut i: usize = 0;
-    while i < src.len() {
-        dst[at + i] = src[i];
-        i += 1;
-    }
-}
-
 // Writes `first` and after it `second`, which fill `out`.
 pub fn write_both(out: &mut [u8], first: &[u8], second: &[u8])
     requires { ⌜ length (now out) ≡ length (now first) + length (now second) ⌝ }
     ensures { λ _. ⌜ now (out .exit) ≡ now (first .entry) ++ now (second .entry) ⌝ }
 {
-    copy_at(out, 0, first);
-    copy_at(out, first.len(), second);
+    calls::copy_at(out, 0, first);
+    calls::copy_at(out, first.len(), second);
 }
 
 // Whether two slices of one length hold the same bytes. Every byte is read, wherever they differ.

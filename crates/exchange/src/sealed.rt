@@ -35,7 +35,7 @@ fn seal_digest(
     match answer {
         Answer::Refused(number, place) => Answer::Refused(number, place),
         Answer::Done => {
-            crate::bytes::copy_at(sealed, n, &digest[32..64]);
+            calls::copy_at(sealed, n, &digest[32..64]);
             Answer::Done
         }
     }

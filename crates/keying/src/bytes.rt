@@ -10,18 +10,6 @@ ghost use Rattle.packing.specs.Digits.{Digit, pack};
 ghost use Rattle.scheme.specs.Answers.{workLength};
 ghost use Rattle.keying.specs.Held.{vectorsStart};
 
-// Copies `src` to the front of `out`.
-pub fn copy_bytes(out: &mut [u8], src: &[u8])
-    requires { ⌜ length (now src) ≤ length (now out) ⌝ }
-    ensures { λ _. ⌜ now (out .exit) ≡ over (now (out .entry)) 0 (now (src .entry)) ⌝ }
-{
-    let mut i: usize = 0;
-    while i < src.len() {
-        out[i] = src[i];
-        i += 1;
-    }
-}
-
 // Writes the seed, and after it the stored vectors packed.
 pub fn write_public_key(set: usize, seed: &[u8], work: &[u32], out: &mut [u8])
     requires { ⌜ (1 ≤ set) × (set < 13) × (length (now seed) ≡ 32) × (length (now work) ≡ workLength (setOf set)) × (length (now out) ≡ publicKeyBytes (setOf set)) ⌝ }
@@ -31,6 +19,6 @@ pub fn write_public_key(set: usize, seed: &[u8], work: &[u32], out: &mut [u8])
     let p = sets::parameters_of(set);
     let start = crate::vectors::vectors_start(set);
     let end = crate::vectors::vectors_end(set);
-    copy_bytes(out, seed);
+    calls::copy_at(out, 0, seed);
     packing::pack_into(&work[start..end], p.width, &mut out[32..]);
 }

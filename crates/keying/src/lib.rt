@@ -92,7 +92,7 @@ fn generate_through(
         Answer::Refused(number, place) => Answer::Refused(number, place),
         Answer::Done => {
             bytes::write_public_key(set, seedpk, work, public_key);
-            bytes::copy_bytes(secret_seed, seedsk);
+            calls::copy_at(secret_seed, 0, seedsk);
             Answer::Done
         }
     }

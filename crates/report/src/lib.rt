@@ -134,7 +134,7 @@ fn fill_ones(bytes: &mut [u8]) {
 }
 
 // The number after x in the generator of inputs.
-fn after(x: u64) -> u64
+pub fn after(x: u64) -> u64
     requires { ⌜ x < 2147483648 ⌝ }
     ensures { λ r. ⌜ r < 2147483648 ⌝ }
 {

@@ -1,14 +1,6 @@
 // Random numbers, bytes, residues and signed numbers, the same for each run: a number is found from where it is wanted, so it rests on no answer.
 ghost use Prim.Native.Nat.{_<_};
 
-// The number after x in the generator.
-fn after(x: u64) -> u64
-    requires { ⌜ x < 2147483648 ⌝ }
-    ensures { λ r. ⌜ r < 2147483648 ⌝ }
-{
-    (x * 1103515245 + 12345) % 2147483648
-}
-
 // A number of 31 bits with its upper 16 bits and its lower 15 exchanged, so that the lower ones are mixed too.
 fn exchanged(x: u64) -> u64
     requires { ⌜ x < 2147483648 ⌝ }
@@ -28,8 +20,8 @@ fn start(group: usize, slice: usize, i: usize) -> u64
 fn number(group: usize, slice: usize, i: usize) -> usize
     ensures { λ r. ⌜ r < 16777216 ⌝ }
 {
-    let first = after(exchanged(after(start(group, slice, i))));
-    (after(exchanged(first)) / 128 % 16777216) as usize
+    let first = report::after(exchanged(report::after(start(group, slice, i))));
+    (report::after(exchanged(first)) / 128 % 16777216) as usize
 }
 
 // Choice `i` of a group of calls, a number below a limit.

@@ -12,18 +12,6 @@ pub fn smaller(a: usize, b: usize) -> usize
     if a < b { a } else { b }
 }
 
-// Copies `src` into the places from `at` on.
-pub fn copy_at(dst: &mut [u8], at: usize, src: &[u8])
-    requires { ⌜ at + length (now src) ≤ length (now dst) ⌝ }
-    ensures { λ _. ⌜ now (dst .exit) ≡ over (now (dst .entry)) at (now (src .entry)) ⌝ }
-{
-    let mut i: usize = 0;
-    while i < src.len() {
-        dst[at + i] = src[i];
-        i += 1;
-    }
-}
-
 // Sets the `n` bytes from `at` on to zero.
 pub fn zero_at(dst: &mut [u8], at: usize, n: usize)
     requires { ⌜ at + n ≤ length (now dst) ⌝ }
@@ -42,10 +30,10 @@ pub fn pad_at(block: &mut [u8], at: usize, suffix: u8)
     ensures { λ _. ⌜ now (block .exit) ≡ over (now (block .entry)) at (padding suffix (136 - at)) ⌝ }
 {
     if at == 135 {
-        copy_at(block, at, &[suffix + 0x80]);
+        calls::copy_at(block, at, &[suffix + 0x80]);
         return;
     }
-    copy_at(block, at, &[suffix]);
+    calls::copy_at(block, at, &[suffix]);
     zero_at(block, at + 1, 134 - at);
-    copy_at(block, 135, &[0x80]);
+    calls::copy_at(block, 135, &[0x80]);
 }

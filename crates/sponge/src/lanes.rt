@@ -6,7 +6,7 @@ ghost use Rattle.maths.specs.Vector.{at};
 ghost use Rattle.keccak.specs.Lane.{_⊕_, five};
 ghost use Rattle.maths.specs.Bytes.{bytesOf};
 ghost use Rattle.sponge.specs.Sponge.{laneOf, mixed, lanes};
-use crate::block::copy_at;
+use calls::copy_at;
 
 // The lane of eight bytes.
 fn joined(b0: u8, b1: u8, b2: u8, b3: u8, b4: u8, b5: u8, b6: u8, b7: u8) -> u64

@@ -6,11 +6,11 @@ ghost use lib.ListN.{length, take};
 ghost use Rattle.keccak.specs.Keccak.{keccakF};
 ghost use Rattle.sponge.specs.Sponge.{squeezed, sponge};
 ghost use Rattle.sponge.specs.Absorbed.{Ready, Absorbed};
-use crate::block::copy_at;
 use crate::block::pad_at;
 use crate::block::smaller;
 use crate::lanes::lane_block;
 use crate::lanes::mix;
+use calls::copy_at;
 
 // Fills `out` from a state whose last permutation is still to be done.
 pub fn squeeze(state: [[u64; 5]; 5], out: &mut [u8])

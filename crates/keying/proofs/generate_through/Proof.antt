@@ -23,8 +23,8 @@ write-public-key-requires c κs =
     let stored = c .before .before .before .before .before .before .before .store-key in
     ((pre .0, pre .1, c .before .before .before .before .before .before .before .before .before .before .before .before .before .source-bytes2 .kept .1 .1 .1 .0 ∙ pre .7, stored .kept .1 .1 .1 .0 ∙ pre .5, pre .3), stored-digits (start .args .set) (pre .1) _ _ (stored .ensures .1 (ap outcome (c .before .before .before .enum-told .given .1))))
 
-copy-bytes-requires : tie.Need-copy-bytes-requires
-copy-bytes-requires c κs =
+copy-at-requires : tie.Need-copy-at-requires
+copy-at-requires c κs =
     let pre = c .before .before .before .before .before .before .before .before .before .before .before .before .before .before .before .before .before .before .before .before .before .before .before .before .before .before .before .before .before .before .before .pre in
     omega (arith, c .before .before .before .before .before .before .before .before .before .before .before .before .before .before .before .before .before .before .before .before .before .before .source-bytes .kept .1 .1 .1 .0, pre .6, pre .4)
 
@@ -50,7 +50,7 @@ returns-2 c =
       sym decided,
       (
         c .before .before .before .before .before .before .before .write-public-key .ensures ∙ key-made p seed _ _ first second _ (c .before .before .before .before .before .before .before .before .before .before .before .before .before .before .before .store-key .ensures .1 accepted-key) ∙ sym (leaves-accepted _ _ decided),
-        c .before .before .copy-bytes .ensures ∙ over-whole _ _ (c .before .before .before .before .before .before .before .before .before .before .before .before .before .before .before .before .before .before .before .before .before .before .before .before .before .source-bytes .kept .1 .1 .1 .0 ∙ pre .6 ∙ sym (pre .4)) ∙ first ∙ sym (leaves-accepted _ _ decided),
+        c .before .before .copy-at .ensures ∙ over-whole _ _ (c .before .before .before .before .before .before .before .before .before .before .before .before .before .before .before .before .before .before .before .before .before .before .before .before .before .source-bytes .kept .1 .1 .1 .0 ∙ pre .6 ∙ sym (pre .4)) ∙ first ∙ sym (leaves-accepted _ _ decided),
       ),
     )
 
@@ -65,7 +65,7 @@ generate-through-spec =
     (λ c. search needs)
     (λ c. search needs)
     write-public-key-requires
-    copy-bytes-requires
+    copy-at-requires
     (λ c. search needs)
     (λ c. search needs)
     (λ c. search needs)

@@ -18,8 +18,8 @@ use borrow.Author.Needs.{needs}
 use Rattle.keying.proofs.bytes.write_public_key.Statement.{statement}
 use Rattle.keying.proofs.bytes.write_public_key.Tie as tie
 
-copy-bytes-requires : tie.Need-copy-bytes-requires
-copy-bytes-requires c κs =
+copy-at-requires : tie.Need-copy-at-requires
+copy-at-requires c κs =
     let start = c .before .before .before .before .before .before .before in
     omega (arith, start .pre .0 .2, start .pre .0 .4, seed-room (setOf (start .args .set)))
 
@@ -38,12 +38,12 @@ part-pack-into-end c =
 sub-pack-into-2 : tie.Need-sub-pack-into-2
 sub-pack-into-2 c =
     let start = c .before .before .before .before .before .before .before .before .before .before .before in
-    omega (arith, c .before .before .before .copy-bytes .kept .0, start .pre .0 .4, seed-room (setOf (start .args .set)))
+    omega (arith, c .before .before .before .copy-at .kept .0, start .pre .0 .4, seed-room (setOf (start .args .set)))
 
 part-pack-into-start-2 : tie.Need-part-pack-into-start-2
 part-pack-into-start-2 c =
     let start = c .before .before .before .before .before .before .before .before .before .before .before in
-    omega (arith, c .before .before .before .copy-bytes .kept .0, start .pre .0 .4, seed-room (setOf (start .args .set)))
+    omega (arith, c .before .before .before .copy-at .kept .0, start .pre .0 .4, seed-room (setOf (start .args .set)))
 
 pack-into-requires : tie.Need-pack-into-requires
 pack-into-requires c κs =
@@ -69,7 +69,7 @@ returns c =
     let count = setOf set .d1 * setOf set .t in
     let part : take (c .before .before .before .before .before .before .before .before .before .vectors-end .result - from .result) (drop (from .result) work) ≡ region work (vectorsStart (setOf set)) count =
     region-part work (from .result) count (c .before .before .before .before .before .before .before .before .before .vectors-end .result) (omega (arith, c .before .before .before .before .before .before .before .before .before .vectors-end .ensures, from .ensures)) ∙ ap (λ (at : ℕ). region work at count) (from .ensures) in
-    let copied = c .before .before .before .before .before .before .before .copy-bytes in
+    let copied = c .before .before .before .before .before .before .before .copy-at in
     let room : length (copied .last .0) ≡ 32 + packedBytes count (setOf set .width) = copied .kept .0 ∙ pre .4 in
     let rest : length (take (length (copied .last .0) - 32) (drop 32 (copied .last .0))) ≡ packedBytes count (setOf set .width) = part-length (copied .last .0) 32 (length (copied .last .0)) (packedBytes count (setOf set .width)) room (omega arith) in
     let made : c .before .before .pack-into .last .1 .1 .0 ≡ pack (setOf set .width) (packedBytes count (setOf set .width)) (region work (vectorsStart (setOf set)) count) = rw (c .before .before .before .before .before .before .before .before .before .before .before .parameters-of .ensures, part, rest) at (c .before .before .pack-into .ensures) in
@@ -83,7 +83,7 @@ write-public-key-spec =
     (λ c κs. search needs)
     (λ c κs. search needs)
     (λ c κs. search needs)
-    copy-bytes-requires
+    copy-at-requires
     mul-pack-into
     (λ c. search needs)
     (λ c. search needs)

@@ -1,12 +1,12 @@
--- `sponge::block::copy_at` meets its contract: after i turns the first i bytes of `src` stand in place.
+-- `calls::copy_at` meets its contract: after i turns the first i bytes of `src` stand in place.
 -- Assumes nothing.
 use mathlib.Core.Path.{refl}
 use Prim.Native.Nat.{_-_}
 use lib.ListN.{length}
 use Rattle.calls.proofs.Filled.{Filled, filled-none, filled-more, filled-all}
 use borrow.Author.Needs.{needs}
-use Rattle.sponge.proofs.block.copy_at.Statement.{statement}
-use Rattle.sponge.proofs.block.copy_at.Tie as tie
+use Rattle.calls.proofs.copy_at.Statement.{statement}
+use Rattle.calls.proofs.copy_at.Tie as tie
 
 abbrev Inv-loop : tie.InvT-loop
 Inv-loop dst₀ at src i₀ dst i = Filled dst₀ at (length src) src i dst
