@@ -131,7 +131,8 @@ fn multiplier_at(s: &Set, bytes: &[u8], position: usize) -> Option<i32> {
 /// Multipliers over lent bytes, from a first position on.
 pub fn multipliers(set: Option<Set>, bytes: &[u8], first: usize, wanted: usize) -> Result<Vec<i32>, Refusal> {
     let s = byte_set(set)?;
-    if wanted > 4096 || first > s.multipliers() || wanted > s.multipliers() - first {
+    let past_last = wanted > 0 && (first >= s.multipliers() || wanted > s.multipliers() - first);
+    if wanted > 4096 || past_last {
         return refusal(2, 0);
     }
     (0..wanted).map(|i| multiplier_at(&s, bytes, first + i).ok_or(Refusal { number: 4, place: i })).collect()

@@ -2,11 +2,12 @@
 -- Assumes nothing.
 use mathlib.Core.Path.{_≡_, refl, sym, ap, _∙_}
 use mathlib.Core.Bool.{Bool, true, false}
-use mathlib.Core.List.{List}
+use mathlib.Core.List.{List, [], _∷_}
 use Prim.Native.Nat.{ℕ, _+_, _≤_, _<_}
 use native.Mathlib.Omega.{arith}
 use borrow.Author.Tests.{ltb-false, lt-ltb, le-ltb}
 use lib.Dec.{ltb}
+use lib.IntN.{ℤ}
 use lib.ListN.{length}
 use Rattle.calls.specs.Outcome.{Outcome, accepted, refused, refuse, leaves}
 use Rattle.calls.proofs.Outcome.{accepted-refused, refuse-accepted, leaves-accepted, leaves-refused}
@@ -15,7 +16,8 @@ use Rattle.sets.specs.Table.{setOf}
 use Rattle.sets.specs.Derived.{multiplierCount}
 use Rattle.sets.proofs.Rules.{rules}
 use Rattle.draws.specs.Uniform.{candidates, accept}
-use Rattle.draws.specs.Calls.{refuseShape, drawnAnswer, residuesDrawn, residuesAnswer, lentResults, errorsAnswer, multipliersAnswer}
+use Rattle.draws.specs.Calls.{refuseShape, drawnAnswer, residuesDrawn, residuesAnswer, inTurn, errorsAnswer}
+use Rattle.draws.specs.Calls.{lentResults, pastLast, multipliersAnswer, multipliersOut}
 
 -- a refused call answers so and leaves the output
 pub refused-both : {A : Type 0} {r o : Outcome} {number place : ℕ} (new old : List A) → r ≡ refused number place → o ≡ refused number place → (r ≡ o) × (old ≡ leaves o new old)
@@ -73,17 +75,17 @@ module _ (set wanted : ℕ) (bytes : List ℕ) (s : Shaped set wanted) (p : Para
   unfolding residuesAnswer
   residues-answer = shape-rest set wanted s _ ∙ ap (drawnAnswer 0) (sym residues-drawn)
 
-  module _ (first : ℕ) where
+  module _ (first : ℕ) (some : 0 < wanted) where
     -- multipliers past the last position
     pub multipliers-past : multiplierCount p < first + wanted → multipliersAnswer set bytes first wanted ≡ refused 2 0
-    unfolding multipliersAnswer
-    multipliers-past h = shape-rest set wanted s _ ∙ rw (← known, lt-ltb (multiplierCount p) (first + wanted))
+    unfolding pastLast multipliersAnswer
+    multipliers-past h = shape-rest set wanted s _ ∙ rw (← known, lt-ltb 0 wanted some, lt-ltb (multiplierCount p) (first + wanted) h)
 
     module _ (within : first + wanted ≤ multiplierCount p) where
       -- only the bytes are left to check
       after-positions : multipliersAnswer set bytes first wanted ≡ refuse (ltb (lentResults p bytes first wanted) wanted) 4 (lentResults p bytes first wanted) accepted
-      unfolding multipliersAnswer
-      after-positions = shape-rest set wanted s _ ∙ rw (← known, le-ltb (multiplierCount p) (first + wanted) within)
+      unfolding pastLast multipliersAnswer
+      after-positions = shape-rest set wanted s _ ∙ rw (← known, lt-ltb 0 wanted some, le-ltb (multiplierCount p) (first + wanted) within)
 
       -- a multiplier whose bytes are not all lent
       pub multipliers-short : lentResults p bytes first wanted < wanted → multipliersAnswer set bytes first wanted ≡ refused 4 (lentResults p bytes first wanted)
@@ -92,6 +94,13 @@ module _ (set wanted : ℕ) (bytes : List ℕ) (s : Shaped set wanted) (p : Para
       -- all bytes are lent
       pub multipliers-enough : wanted ≤ lentResults p bytes first wanted → multipliersAnswer set bytes first wanted ≡ accepted
       multipliers-enough h = after-positions ∙ rw (le-ltb (lentResults p bytes first wanted) wanted)
+
+-- no multipliers wanted, at any first position: accepted, and the empty output is left
+pub multipliers-none : (set first : ℕ) (bytes : List ℕ) (out : List ℤ) → Shaped set (length out) → length out ≡ 0 →
+    (accepted ≡ multipliersAnswer set bytes first (length out)) × (out ≡ multipliersOut set bytes first out)
+unfolding pastLast lentResults multipliersAnswer multipliersOut inTurn
+multipliers-none set first bytes [] s e = (sym (shape-rest set 0 s _), rw (shape-rest set 0 s accepted))
+multipliers-none set first bytes (x ∷ xs) s e = absurd (omega arith)
 
 module _ (set wanted : ℕ) (bytes : List ℕ) (s : Shaped set wanted) where
   -- errors: fewer bytes than results

@@ -17,7 +17,8 @@ use Rattle.maths.specs.Bytes.{littleEndian}
 use Rattle.draws.specs.Uniform.{candidates, verdict, put, Drawn, taken, ended, exhausted, accept, numbers}
 use Rattle.draws.specs.Small.{ones, errorOf, errorAt, multiplierOf, multiplierBits, signBit, multiplierAt, signsAt}
 
--- the first checks of each draw: 1 when the set is not 1 to 12, 2 when more than 4,096 results are wanted
+-- the first checks of each draw: 1 when the set is not 1 to 12, 2 when more than 4,096 results are wanted. The place of 2 is 0: it is
+-- found before a result is begun, so no result is at fault
 unfoldable pub refuseShape : ℕ → ℕ → Outcome → Outcome
 refuseShape set wanted rest = refuse (ltb set 1) 1 0 (refuse (ltb 12 set) 1 0 (refuse (ltb 4096 wanted) 2 0 rest))
 
@@ -61,11 +62,15 @@ unfoldable pub lentResults : Parameters → List ℕ → ℕ → ℕ → ℕ
 lentResults p bytes first zero = 0
 lentResults p bytes first (suc n) = further (lent p bytes first) (lentResults p bytes (suc first) n)
 
--- multipliers: 2 also when they go past a sealing's last position; 4 for the first result whose bytes are not all lent
+-- some of the multipliers wanted lie past a sealing's last position; of none wanted, none does, whatever the first position
+unfoldable pub pastLast : Parameters → ℕ → ℕ → Bool
+pastLast p first wanted = ltb 0 wanted && ltb (multiplierCount p) (first + wanted)
+
+-- multipliers: 2 also when one lies past a sealing's last position; 4 for the first result whose bytes are not all lent
 unfoldable pub multipliersAnswer : ℕ → List ℕ → ℕ → ℕ → Outcome
 multipliersAnswer set bytes first wanted =
     refuseShape set wanted
-    (refuse (ltb (multiplierCount (setOf set)) (first + wanted)) 2 0
+    (refuse (pastLast (setOf set) first wanted) 2 0
     (refuse (ltb (lentResults (setOf set) bytes first wanted) wanted) 4 (lentResults (setOf set) bytes first wanted) accepted))
 
 -- the multipliers in turn
@@ -110,14 +115,20 @@ errorsOut-example = refl
 
 -- set 1 has 2,560 positions, and one sign byte after their sizes serves positions 0 to 7
 multipliersAnswer-example : multipliersAnswer 1 [] 2559 2 ≡ refused 2 0
-unfolding table setOf multiplierCount refuseShape multipliersAnswer
+unfolding table setOf multiplierCount refuseShape pastLast multipliersAnswer
 multipliersAnswer-example = refl
 
 multipliersAnswer-example₂ : multipliersAnswer 1 (replicate 2561 200) 6 3 ≡ refused 4 2
-unfolding table setOf multiplierCount multiplierBytes refuseShape signsAt lent lentResults multipliersAnswer
+unfolding table setOf multiplierCount multiplierBytes refuseShape pastLast signsAt lent lentResults multipliersAnswer
 multipliersAnswer-example₂ = refl
+
+-- nothing wanted is accepted at any first position, and one result there is not
+multipliersAnswer-example₃ : map (multipliersAnswer 1 [] 2561) (0 ∷ 1 ∷ []) ≡ accepted ∷ refused 2 0 ∷ []
+unfolding table setOf multiplierCount refuseShape pastLast lentResults multipliersAnswer
+multipliersAnswer-example₃ = refl
 
 -- 200 modulo 128 is 72; of the bits of 200 number 2 is 0 and number 3 is 1
 multipliersOut-example : multipliersOut 1 (replicate 2561 200) 2 (pos 0 ∷ pos 0 ∷ []) ≡ pos 73 ∷ negsuc 72 ∷ []
-unfolding table setOf multiplierCount multiplierBytes refuseShape signsAt lent lentResults multipliersAnswer multipliersOut inTurn multiplierAt multiplierOf multiplierBits signBit region littleEndian
+unfolding table setOf multiplierCount multiplierBytes refuseShape pastLast signsAt lent lentResults multipliersAnswer
+    multipliersOut inTurn multiplierAt multiplierOf multiplierBits signBit region littleEndian
 multipliersOut-example = refl

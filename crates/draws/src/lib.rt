@@ -76,6 +76,9 @@ pub fn multipliers(set: usize, bytes: &[u8], first: usize, out: &mut [i32]) -> A
     let Answer::Done = shape else {
         return shape;
     };
+    if wanted == 0 {
+        return Answer::Done;
+    }
     let p = sets::parameters_of(set);
     let count = sets::derived::multiplier_count(p);
     if count < wanted {

@@ -145,7 +145,7 @@ fn before(position: usize) -> usize {
     if position == 0 { 0 } else { position - 1 }
 }
 
-// The byte after another.
+// The byte or the position after another.
 fn after(position: usize) -> usize {
     report::at_most(position, 15300) + 1
 }
@@ -166,12 +166,22 @@ fn cut_short(row: [usize; 4]) {
     multipliers([row[0], 5, row[1], 0]);
 }
 
+// First positions past the last, with nothing wanted, which is accepted, and with one result wanted.
+fn past_last(row: [usize; 4]) {
+    multipliers([row[0], row[3], row[1], 1]);
+    multipliers([row[0], row[3], after(row[1]), 0]);
+    multipliers([row[0], row[3], after(row[1]), 1]);
+    multipliers([row[0], row[3], 18446744073709551615, 0]);
+    multipliers([row[0], row[3], 18446744073709551615, 1]);
+}
+
 // The positions of each set.
 fn all_positions() {
     let mut i: usize = 0;
     while i < 12 {
         last_positions(POSITIONS[i]);
         cut_short(POSITIONS[i]);
+        past_last(POSITIONS[i]);
         i += 1;
     }
 }

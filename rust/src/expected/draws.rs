@@ -57,7 +57,8 @@ fn positions(number: usize) -> String {
     let all = signs + count / 8;
     let whole = [(all, count - 1, 1), (all, count - 1, 2), (all, count, 0), (all, count / 2, 40)];
     let cut_short = [(signs + 1, 0, 10), (signs, 0, 10), (signs / 2, 3, 4), (5, count, 0)];
-    let cases = whole.iter().chain(&cut_short);
+    let past_last = [(all, count, 1), (all, count + 1, 0), (all, count + 1, 1), (all, usize::MAX, 0), (all, usize::MAX, 1)];
+    let cases = whole.iter().chain(&cut_short).chain(&past_last);
     cases.map(|&(lent, first, wanted)| multipliers_line(number, lent, first, wanted)).collect()
 }
 
