@@ -97,8 +97,9 @@ uint64_t titanium_kmac256(const uint8_t *key, size_t key_length, const uint8_t *
 uint64_t titanium_kmacxof256(const uint8_t *key, size_t key_length, const uint8_t *input, size_t input_length,
                              const uint8_t *customization, size_t customization_length, uint8_t *out, size_t out_length);
 
-/* Draws over lent bytes, sets 1 to 12, one result for each number of `out`. Refused with 1, 2 (more than 4,096 results, or multipliers past a
-   sealing's last position), 4, 5; the place is the result's. */
+/* Draws over lent bytes, sets 1 to 12, one result for each number of `out`. Refused with 1, 2 (more than 4,096 results, or a multiplier past a
+   sealing's last position), 4, 5. The place of 4 and 5 is the result's; that of 1 and 2 is 0, since no result was begun. An empty `out` is accepted,
+   whatever the first position. */
 uint64_t titanium_draw_residues(size_t set, const uint8_t *bytes, size_t bytes_length, uint32_t *out, size_t out_length);
 uint64_t titanium_draw_errors(size_t set, const uint8_t *bytes, size_t bytes_length, int32_t *out, size_t out_length);
 uint64_t titanium_draw_multipliers(size_t set, const uint8_t *bytes, size_t bytes_length, size_t first, int32_t *out,
