@@ -1,6 +1,6 @@
 -- One result drawn from bytes: the invariant of the loop over its candidates.
 -- Assumes nothing.
-use mathlib.Core.Path.{_≡_, refl, sym, _∙_}
+use mathlib.Core.Path.{_≡_, refl, sym, ap, _∙_}
 use mathlib.Core.List.{List, [], _∷_}
 use Prim.Native.Nat.{ℕ, suc, _+_, _%_, _≤_, _<_}
 use native.Mathlib.Numerals.{add-one}
@@ -35,35 +35,35 @@ module _ (q threshold run position : ℕ) where
     sample-last e = rw (e, sampleFrom)
 
 -- the draw at a position is the draw at a later one, with some candidates set aside between them
-pub record Sampling (bytes : List ℕ) (at q threshold position run : ℕ) : Type 0 where
-  pub same : sampleAt q threshold bytes at ≡ sampleFrom q threshold run position (candidates (drop position bytes))
+pub record Sampling (bytes : List ℕ) (at q threshold before position run : ℕ) : Type 0 where
+  pub same : sampleAt q threshold before bytes at ≡ sampleFrom q threshold run position (candidates (drop position bytes))
   pub less : run < 128
 
 -- before the first candidate
-pub sampling-none : (bytes : List ℕ) (at q threshold : ℕ) → Sampling bytes at q threshold at 0
+pub sampling-none : (bytes : List ℕ) (at q threshold before : ℕ) → before < 128 → Sampling bytes at q threshold before at before
 unfolding sampleAt
-sampling-none bytes at q threshold = record { same = refl; less = omega arith }
+sampling-none bytes at q threshold before h = record { same = refl; less = h }
 
-module _ {bytes : List ℕ} {at q threshold position run : ℕ} (s : Sampling bytes at q threshold position run) where
+module _ {bytes : List ℕ} {at q threshold before position run : ℕ} (s : Sampling bytes at q threshold before position run) where
   -- the bytes end
-  pub sampling-end : length bytes < position + 3 → refusal 4 ≡ sampleAt q threshold bytes at
+  pub sampling-end : length bytes < position + 3 → refusal 4 ≡ sampleAt q threshold before bytes at
   sampling-end h = sym (s .same ∙ rw (candidates-none bytes position h, sample-end))
 
   module _ {c : ℕ} (h : position + 3 ≤ length bytes) (e : c ≡ littleEndian (region bytes position 3)) where
     -- the draw begins with the candidate at the position
-    first : sampleAt q threshold bytes at ≡ sampleFrom q threshold run position (c ∷ candidates (drop (position + 3) bytes))
+    first : sampleAt q threshold before bytes at ≡ sampleFrom q threshold run position (c ∷ candidates (drop (position + 3) bytes))
     first = s .same ∙ rw (candidates-first bytes position h, e)
 
     -- the candidate is taken
-    pub sampling-take : c < threshold → number (c % q) (position + 3) ≡ sampleAt q threshold bytes at
-    sampling-take l = sym (first ∙ sample-take q threshold run position c _ (verdict-take threshold run c l))
+    pub sampling-take : {x : ℕ} → c < threshold → x ≡ c % q → number x (position + 3) ≡ sampleAt q threshold before bytes at
+    sampling-take l v = ap (λ (y : ℕ). number y (position + 3)) v ∙ sym (first ∙ sample-take q threshold run position c _ (verdict-take threshold run c l))
 
     -- the candidate is set aside
-    pub sampling-aside : threshold ≤ c → (run + 1 ≡ 128 → ⊥) → Sampling bytes at q threshold (position + 3) (run + 1)
+    pub sampling-aside : threshold ≤ c → (run + 1 ≡ 128 → ⊥) → Sampling bytes at q threshold before (position + 3) (run + 1)
     sampling-aside l n =
         let less : run + 1 < 128 = omega (arith, s .less) in
         record { same = first ∙ rw add-one (sample-aside q threshold run position c _ (verdict-aside threshold run c l (omega arith))); less = less }
 
     -- the candidate is the last that may be set aside
-    pub sampling-last : threshold ≤ c → run + 1 ≡ 128 → refusal 5 ≡ sampleAt q threshold bytes at
+    pub sampling-last : threshold ≤ c → run + 1 ≡ 128 → refusal 5 ≡ sampleAt q threshold before bytes at
     sampling-last l n = sym (first ∙ sample-last q threshold run position c _ (verdict-last threshold run c l (omega arith)))

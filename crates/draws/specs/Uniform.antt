@@ -93,9 +93,9 @@ sampleFrom q threshold run position (c ∷ cs) =
       | last ↦ refusal 5
     ]
 
--- one result from the bytes from a position on
-unfoldable pub sampleAt : ℕ → ℕ → List ℕ → ℕ → Sample
-sampleAt q threshold bytes position = sampleFrom q threshold 0 position (candidates (drop position bytes))
+-- one result from the bytes from a position on, with run candidates set aside in a row for it so far
+unfoldable pub sampleAt : ℕ → ℕ → ℕ → List ℕ → ℕ → Sample
+sampleAt q threshold run bytes position = sampleFrom q threshold run position (candidates (drop position bytes))
 
 -- of seven bytes the last is no candidate
 candidates-example : candidates (1 ∷ 2 ∷ 3 ∷ 255 ∷ 255 ∷ 255 ∷ 9 ∷ []) ≡ 197121 ∷ 16777215 ∷ []
@@ -131,15 +131,15 @@ resume-example₂ : resume 17 255 3 (ended (3 ∷ []) 127) (255 ∷ 3 ∷ []) �
 unfolding verdict put accept after resume
 resume-example₂ = refl
 
-sampleAt-example : sampleAt 17 255 (9 ∷ 255 ∷ 0 ∷ 0 ∷ 20 ∷ 0 ∷ 0 ∷ 7 ∷ []) 1 ≡ number 3 7
+sampleAt-example : sampleAt 17 255 0 (9 ∷ 255 ∷ 0 ∷ 0 ∷ 20 ∷ 0 ∷ 0 ∷ 7 ∷ []) 1 ≡ number 3 7
 unfolding littleEndian candidates verdict sampleFrom sampleAt
 sampleAt-example = refl
 
 -- the bytes end inside a candidate
-sampleAt-example₂ : sampleAt 17 255 (255 ∷ 0 ∷ 0 ∷ 20 ∷ 0 ∷ []) 0 ≡ refusal 4
+sampleAt-example₂ : sampleAt 17 255 0 (255 ∷ 0 ∷ 0 ∷ 20 ∷ 0 ∷ []) 0 ≡ refusal 4
 unfolding littleEndian candidates verdict sampleFrom sampleAt
 sampleAt-example₂ = refl
 
-sampleAt-example₃ : sampleAt 17 255 (replicate 384 255 ++ (20 ∷ 0 ∷ 0 ∷ [])) 0 ≡ refusal 5
+sampleAt-example₃ : sampleAt 17 255 0 (replicate 384 255 ++ (20 ∷ 0 ∷ 0 ∷ [])) 0 ≡ refusal 5
 unfolding littleEndian candidates verdict sampleFrom sampleAt
 sampleAt-example₃ = refl

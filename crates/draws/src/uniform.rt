@@ -25,22 +25,23 @@ pub fn candidate_at(bytes: &[u8], position: usize) -> u32
     wide(bytes[position]) + (wide(bytes[position + 1]) << 8) + (wide(bytes[position + 2]) << 16)
 }
 
-// One residue modulo q from the bytes from a position on.
-pub fn draw_one(bytes: &[u8], at: usize, q: u32, threshold: u32) -> Draw
-    requires { ⌜ 0 < q ⌝ }
-    ensures { λ r. ⌜ sample r ≡ sampleAt q threshold (now (bytes .entry)) at ⌝ }
+// One residue modulo q from the bytes from a position on, with `before` candidates set aside in a row for it so far: the one loop over candidates,
+// which the draws from a seed use too.
+pub fn draw_one(bytes: &[u8], at: usize, q: u32, threshold: u32, before: u32) -> Draw
+    requires { ⌜ (0 < q) × (before < 128) ⌝ }
+    ensures { λ r. ⌜ sample r ≡ sampleAt q threshold before (now (bytes .entry)) at ⌝ }
 {
     if bytes.len() < 3 {
         return Draw::Refused(4);
     }
     let last = bytes.len() - 3;
     let mut position = at;
-    let mut run: u32 = 0;
+    let mut run = before;
     while position <= last {
         let candidate = candidate_at(bytes, position);
         position += 3;
         if candidate < threshold {
-            return Draw::Number(candidate % q, position);
+            return Draw::Number(residues::reduce(candidate as u64, q), position);
         }
         run += 1;
         if run == 128 {
@@ -51,7 +52,7 @@ pub fn draw_one(bytes: &[u8], at: usize, q: u32, threshold: u32) -> Draw
 }
 
 // The number of a draw's refusal, and 0 where it is none.
-fn refusal_of(drawn: Draw) -> u8
+pub fn refusal_of(drawn: Draw) -> u8
     ensures { λ r. ⌜ r ≡ refusalOf (sample drawn) ⌝ }
 {
     match drawn {
@@ -68,7 +69,7 @@ pub fn look(bytes: &[u8], q: u32, threshold: u32, wanted: usize) -> Answer
     let mut position: usize = 0;
     let mut i: usize = 0;
     while i < wanted {
-        let drawn = draw_one(bytes, position, q, threshold);
+        let drawn = draw_one(bytes, position, q, threshold, 0);
         let Draw::Number(_, next) = drawn else {
             return Answer::Refused(refusal_of(drawn), i as u32);
         };
@@ -86,7 +87,7 @@ pub fn fill(bytes: &[u8], q: u32, threshold: u32, out: &mut [u32])
     let mut position: usize = 0;
     let mut i: usize = 0;
     while i < out.len() {
-        let Draw::Number(residue, next) = draw_one(bytes, position, q, threshold) else {
+        let Draw::Number(residue, next) = draw_one(bytes, position, q, threshold, 0) else {
             return;
         };
         out[i] = residue;

@@ -29,14 +29,14 @@ advanced counter next (ended xs run) e = absurd (let z : _≡_ {A = ℕ} 0 1 = c
 advanced counter next (exhausted i) e = absurd (let z : _≡_ {A = ℕ} 0 1 = cc in omega arith)
 
 -- a draw that is refused has not its numbers, and is refused with 5
-pub record Stopped (drawn : Drawn) (counter : ℕ) : Type 0 where
+pub record Stopped (drawn : Drawn) (number : ℕ) : Type 0 where
   pub not-taken : isTaken drawn ≡ false
-  pub five : refusal 5 ≡ onwardFrom counter drawn
+  pub five : number ≡ 5
 
-pub stopped : (counter number : ℕ) (drawn : Drawn) → refusal number ≡ onwardFrom counter drawn → Stopped drawn counter
+pub stopped : (counter number : ℕ) (drawn : Drawn) → refusal number ≡ onwardFrom counter drawn → Stopped drawn number
 stopped counter number (taken xs) e = absurd (let z : _≡_ {A = ℕ} 0 1 = cc in omega arith)
-stopped counter number (ended xs run) e = record { not-taken = refl; five = refl }
-stopped counter number (exhausted i) e = record { not-taken = refl; five = refl }
+stopped counter number (ended xs run) e = record { not-taken = refl; five = cc }
+stopped counter number (exhausted i) e = record { not-taken = refl; five = cc }
 
 module _ (seed : List ℕ) where
   -- the answer of the draw of polynomial i
@@ -62,8 +62,8 @@ module _ (seed : List ℕ) where
   secret-draw e w = rw (e, w)
 
 -- a check of a draw
-pub refuse-not-taken : {b : Bool} (after : Outcome) → b ≡ false → refuse (not b) 5 0 after ≡ refused 5 0
-refuse-not-taken after e = rw e
+pub refuse-not-taken : {b : Bool} {number : ℕ} (after : Outcome) → b ≡ false → number ≡ 5 → refused number 0 ≡ refuse (not b) 5 0 after
+refuse-not-taken after e five = rw (e, five)
 
 pub refuse-taken : {b : Bool} (after : Outcome) → b ≡ true → refuse (not b) 5 0 after ≡ after
 refuse-taken after e = rw e

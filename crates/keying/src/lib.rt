@@ -49,8 +49,9 @@ fn draw_secret(set: usize, seed: &[u8], work: &mut [u32]) -> Answer
     ensures answer { λ r. ⌜ outcome r ≡ refuse (not (isTaken (secretDrawn (setOf set) (now (seed .entry))))) 5 0 accepted ⌝ }
     ensures result { λ _. ⌜ (isTaken (secretDrawn (setOf set) (now (seed .entry))) ≡ true → SecretHeld (setOf set) (now (seed .entry)) (now (work .exit))) ⌝ }
 {
-    let Advance::Counter(next) = draw_stored(set, seed, work) else {
-        return Answer::Refused(5, 0);
+    let drawn = draw_stored(set, seed, work);
+    let Advance::Counter(next) = drawn else {
+        return Answer::Refused(samplers::refusal_of(drawn), 0);
     };
     draw_errors(set, seed, next, work);
     Answer::Done
@@ -63,10 +64,10 @@ fn store_key(set: usize, seedsk: &[u8], seedpk: &[u8], work: &mut [u32]) -> Answ
     ensures result { λ r. ⌜ (outcome r ≡ accepted → region (now (work .exit)) (vectorsStart (setOf set)) (setOf set .d1 * setOf set .t) ≡ joined (setOf set .t) (λ i. sentInverse (setOf set) 1 (publicVector (setOf set) (now (seedsk .entry)) (now (seedpk .entry)) i))) ⌝ }
 {
     let drawn = draw_secret(set, seedsk, work);
-    match drawn {
-        Answer::Refused(number, place) => Answer::Refused(number, place),
-        Answer::Done => vectors::store_vectors(set, seedpk, work),
-    }
+    let Answer::Done = drawn else {
+        return drawn;
+    };
+    vectors::store_vectors(set, seedpk, work)
 }
 
 // Makes a key by way of the two seeds, which are lent room.
@@ -88,14 +89,12 @@ fn generate_through(
     source::source_bytes(p, seed, 0, seedsk);
     source::source_bytes(p, seed, 1, seedpk);
     let stored = store_key(set, seedsk, seedpk, work);
-    match stored {
-        Answer::Refused(number, place) => Answer::Refused(number, place),
-        Answer::Done => {
-            bytes::write_public_key(set, seedpk, work, public_key);
-            calls::copy_at(secret_seed, 0, seedsk);
-            Answer::Done
-        }
-    }
+    let Answer::Done = stored else {
+        return stored;
+    };
+    bytes::write_public_key(set, seedpk, work, public_key);
+    calls::copy_at(secret_seed, 0, seedsk);
+    Answer::Done
 }
 
 // Makes the public key and the secret seed of a key seed.

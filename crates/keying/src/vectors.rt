@@ -127,12 +127,13 @@ fn next_vector(
     ensures answer { λ r. ⌜ onward r ≡ onwardFrom (publicCounter (setOf set) (now (seed .entry)) (suc i)) (publicDrawn (setOf set) (now (seed .entry)) i) ⌝ }
     ensures result { λ _. ⌜ (isTaken (publicDrawn (setOf set) (now (seed .entry)) i) ≡ true → now (work .exit) ≡ over (now (work .entry)) (vectorsStart (setOf set) + setOf set .d1 * i) (storedVector (setOf set) (now (seed .entry)) (now (work .entry)) i)) ⌝ }
 {
-    let Advance::Counter(next) = draw_polynomial(set, seed, i, counter, x) else {
-        return Advance::Refused(5);
+    let drawn = draw_polynomial(set, seed, i, counter, x);
+    let Advance::Counter(_) = drawn else {
+        return drawn;
     };
     key_vector(set, i, powers, x, work);
     store_vector(set, i, inverses, x, work);
-    Advance::Counter(next)
+    drawn
 }
 
 // Stores all vectors of a public key.
@@ -153,9 +154,9 @@ fn all_vectors(
     let mut counter: u32 = 0;
     let mut i: usize = 0;
     while i < t {
-        let Advance::Counter(next) = next_vector(set, seed, i, counter, powers, inverses, x, work)
-        else {
-            return Answer::Refused(5, 0);
+        let drawn = next_vector(set, seed, i, counter, powers, inverses, x, work);
+        let Advance::Counter(next) = drawn else {
+            return Answer::Refused(samplers::refusal_of(drawn), 0);
         };
         counter = next;
         i += 1;

@@ -1,5 +1,6 @@
 // Decryption of Titanium-CPA, for sets 1 to 12 (003, algorithm 3, worked as in algorithm 42).
 use calls::Answer;
+use samplers::Advance;
 use sets::Parameters;
 ghost use mathlib.Core.Path.{_≡_};
 ghost use Prim.Native.Nat.{_^_, _≤_, _<_};
@@ -161,13 +162,11 @@ pub fn open(
     let p = sets::parameters_of(set);
     let size = p.d3;
     let drawn = samplers::residues_from(p, seed, p.bytpcs, 0, &mut work[0..size]);
-    match drawn {
-        samplers::Advance::Refused(_) => Answer::Refused(5, 0),
-        samplers::Advance::Counter(_) => {
-            read(set, ciphertext, &work[0..size], message);
-            Answer::Done
-        }
-    }
+    let Advance::Counter(_) = drawn else {
+        return Answer::Refused(samplers::refusal_of(drawn), 0);
+    };
+    read(set, ciphertext, &work[0..size], message);
+    Answer::Done
 }
 
 // Whether each number of ĉ1 is below q; the work slice is lent for the numbers.

@@ -158,19 +158,15 @@ fn one_seed(set: usize, seed: [u8; 32]) {
 
 // Prints where a draw stands after a block; of a draw that is refused the results are not told.
 fn progress(given: Progress, out: &[u32]) {
-    match given {
-        Progress::All => {
-            report::text(b" all");
-            report::number_sum(out);
-        }
-        Progress::More(done, run) => {
-            report::text(b" more");
-            report::number(done as u64);
-            report::number(run as u64);
-            report::number_sum(out);
-        }
-        Progress::Exhausted => report::text(b" exhausted refused"),
-    }
+    let Progress::Reached(done, run) = given else {
+        report::text(b" refused");
+        report::number(samplers::block::refusal_of(given) as u64);
+        return;
+    };
+    report::text(b" reached");
+    report::number(done as u64);
+    report::number(run as u64);
+    report::number_sum(out);
 }
 
 // A block: a pattern in which `count` candidates from number `first` on are set aside.
@@ -189,15 +185,16 @@ fn next_block(set: usize, bytes: [u8; 384], done: usize, run: u32, out: &mut [u3
             return samplers::block::continue_draw(&bytes, p.q, p.zqrej, done, run, out);
         }
     }
-    Progress::Exhausted
+    Progress::Reached(done, run)
 }
 
 // The second block, where the first has left some results to draw.
 fn second_block(set: usize, bytes: [u8; 384], reached: Progress, out: &mut [u32]) {
-    if let Progress::More(done, run) = reached {
-        let given = next_block(set, bytes, done, run, out);
-        progress(given, out);
-    }
+    let Progress::Reached(done, run) = reached else {
+        return;
+    };
+    let given = next_block(set, bytes, done, run, out);
+    progress(given, out);
 }
 
 // A draw of 40 residues over a block that ends in 100 candidates set aside and one that begins with some more.

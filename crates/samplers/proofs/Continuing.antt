@@ -1,20 +1,22 @@
--- One block of a uniform draw: the numbers taken so far, and the invariant of the loop over the candidates.
+-- One block of a uniform draw: the numbers taken so far, and the invariant of the loop over the results.
 -- Assumes nothing.
 use mathlib.Core.Path.{_≡_, refl, sym, ap, _∙_}
 use mathlib.Core.List.{List, [], _∷_, _++_, append-nil, append-assoc}
-use Prim.Native.Nat.{ℕ, suc, _+_, _-_, _%_, _≤_, _<_}
+use mathlib.Core.Bool.{cond}
+use mathlib.Core.Logic.{inl, inr}
+use Prim.Native.Nat.{ℕ, suc, _+_, _-_, _/_, _≤_, _<_}
 use native.Mathlib.Nat.{add-zero}
 use native.Mathlib.Numerals.{add-one}
 use native.Mathlib.Omega.{arith}
+use lib.Dec.{eqb}
 use lib.ListN.{length, drop, set, length-append, length-set, take-append-drop}
 use lib.Seq.{set-split}
-use Rattle.calls.specs.Region.{region, over}
+use Rattle.calls.specs.Region.{over}
 use Rattle.calls.proofs.Region.{over-append}
-use Rattle.maths.specs.Bytes.{littleEndian}
-use Rattle.draws.specs.Uniform.{candidates, Drawn, taken, ended, exhausted, put, accept, after}
-use Rattle.draws.proofs.Candidates.{candidates-none, candidates-first}
-use Rattle.draws.proofs.Accept.{verdict-take, verdict-aside, verdict-last, accept-none, accept-end, accept-take, accept-aside, accept-last}
-use Rattle.samplers.specs.Blocks.{complete, partial, stopped, standingAfter, Written}
+use Rattle.draws.specs.Uniform.{candidates, Drawn, taken, ended, exhausted, put, accept, after, number, refusal, sampleAt}
+use Rattle.draws.proofs.Accept.{accept-none, accept-within}
+use Rattle.draws.proofs.Results.{next-number, next-within, next-refused}
+use Rattle.samplers.specs.Blocks.{reached, stopped, standingAfter, Written}
 
 -- finished results before a draw that has all its numbers
 pub after-taken : (xs ys : List ℕ) → after xs (taken ys) ≡ taken (xs ++ ys)
@@ -50,91 +52,90 @@ over-one : (xs : List ℕ) (at x : ℕ) → at < length xs → set xs at x ≡ o
 unfolding over
 over-one xs at x h = set-split xs at x h ∙ rw (append-assoc, add-one)
 
--- after some candidates of a block: the numbers taken stand in the output, and the draw goes on from a position
+-- after some results from a block: they stand in the output, and the draw goes on from a position
 pub record Continuing (bytes : List ℕ) (q threshold from before : ℕ) (old : List ℕ) (position done run : ℕ) (new : List ℕ) : Type 0 where
   pub numbers : List ℕ
   pub same : accept q threshold (length old - from) before (candidates bytes) ≡ after numbers (accept q threshold (length old - done) run (candidates (drop position bytes)))
   pub count : done ≡ from + length numbers
-  pub unfinished : done < length old
+  pub within : done ≤ length old
+  pub inside : position ≤ length bytes
   pub less : run < 128
   pub kept : length new ≡ length old
   pub written : new ≡ over old from numbers
 
--- before the first candidate
-pub continuing-none : (bytes : List ℕ) (q threshold from before : ℕ) (old : List ℕ) → from < length old → before < 128 → Continuing bytes q threshold from before old 0 from before old
+-- before the first result
+pub continuing-none : (bytes : List ℕ) (q threshold from before : ℕ) (old : List ℕ) → from ≤ length old → before < 128 →
+    Continuing bytes q threshold from before old 0 from before old
 unfolding after
 continuing-none bytes q threshold from before old h less =
-    record { numbers = []; same = refl; count = omega arith; unfinished = h; less = less; kept = refl; written = sym (over-none old from) }
+    record {
+      numbers = [];
+      same = refl;
+      count = omega arith;
+      within = h;
+      inside = omega arith;
+      less = less;
+      kept = refl;
+      written = sym (over-none old from);
+    }
 
 module _ {bytes : List ℕ} {q threshold from before : ℕ} {old : List ℕ} {position done run : ℕ} {new : List ℕ} (s : Continuing bytes q threshold from before old position done run new) where
   -- the whole draw
   abbrev whole : Drawn
   whole = accept q threshold (length old - from) before (candidates bytes)
 
-  -- the bytes end: so many results are done
-  pub continuing-end : length bytes < position + 3 → (partial done run ≡ standingAfter from whole) × Written from whole old new
-  continuing-end h =
-      let left : length old - done ≡ suc (length old - (done + 1)) = omega (arith, s .unfinished) in
-      let e : whole ≡ ended (s .numbers) run = s .same ∙ rw (candidates-none bytes position h, left, accept-end) (after-ended (s .numbers) [] run ∙ ap (λ (xs : List ℕ). ended xs run) (append-nil (s .numbers))) in
-      rw e (ap (λ (k : ℕ). partial k run) (s .count), s .written)
+  -- all results are drawn
+  pub continuing-all : length old ≤ done → (reached done 0 ≡ standingAfter from whole) × Written from whole old new
+  continuing-all h =
+      let none : length old - done ≡ 0 = omega arith in
+      let e : whole ≡ taken (s .numbers) = s .same ∙ rw (none, accept-none) (after-taken (s .numbers) [] ∙ ap taken (append-nil (s .numbers))) in
+      rw e (ap (λ (k : ℕ). reached k 0) (s .count), s .written)
 
-  module _ {c : ℕ} (h : position + 3 ≤ length bytes) (e : c ≡ littleEndian (region bytes position 3)) where
-    -- the draw goes on with the candidate at the position
-    first : whole ≡ after (s .numbers) (accept q threshold (suc (length old - (done + 1))) run (c ∷ candidates (drop (position + 3) bytes)))
-    first =
-        let left : length old - done ≡ suc (length old - (done + 1)) = omega (arith, s .unfinished) in
-        s .same ∙ rw (candidates-first bytes position h, left, e)
+  module _ (unfinished : done < length old) where
+    -- the draw of the results that are left
+    abbrev rest : Drawn
+    rest = accept q threshold (suc (length old - (done + 1))) run (candidates (drop position bytes))
 
-    module _ (l : c < threshold) where
-      -- the candidate is taken
-      taken-one : whole ≡ after (s .numbers ++ (c % q ∷ [])) (accept q threshold (length old - (done + 1)) 0 (candidates (drop (position + 3) bytes)))
-      taken-one = first ∙ rw (accept-take q threshold (length old - (done + 1)) run c _ (verdict-take threshold run c l)) (after-put (s .numbers) (c % q) _)
+    -- it is what the whole draw goes on with
+    onwards : whole ≡ after (s .numbers) rest
+    onwards = let left : length old - done ≡ suc (length old - (done + 1)) = omega arith in s .same ∙ rw left
 
-      -- and written
-      written-one : set new done (c % q) ≡ over old from (s .numbers ++ (c % q ∷ []))
-      written-one =
-          over-one new done (c % q) (omega (arith, s .unfinished, s .kept))
-          ∙ rw (s .written, s .count) (over-append old from (s .numbers) (omega (arith, s .unfinished, s .count)) (c % q ∷ []))
+    -- a result is drawn and written
+    pub continuing-more : (x next : ℕ) → sampleAt q threshold run bytes position ≡ number x next →
+        Continuing bytes q threshold from before old next (done + 1) 0 (set new done x)
+    continuing-more x next e =
+        record {
+          numbers = s .numbers ++ (x ∷ []);
+          same = onwards ∙ rw (next-number q threshold (length old - (done + 1)) run bytes position x next e) (after-put (s .numbers) x _);
+          count = rw length-append (omega (arith, s .count));
+          within = omega arith;
+          inside = next-within q threshold 0 run bytes position x next (s .inside) e;
+          less = omega arith;
+          kept = length-set new done x ∙ s .kept;
+          written =
+              over-one new done x (omega (arith, s .kept))
+              ∙ rw (s .written, s .count) (over-append old from (s .numbers) (omega (arith, s .count)) (x ∷ []));
+        }
 
-      -- results are still wanted
-      pub continuing-take : (done + 1 ≡ length old → ⊥) → Continuing bytes q threshold from before old (position + 3) (done + 1) 0 (set new done (c % q))
-      continuing-take n =
-          record {
-            numbers = s .numbers ++ (c % q ∷ []);
-            same = taken-one;
-            count = rw length-append (omega (arith, s .count));
-            unfinished = omega (arith, s .unfinished);
-            less = omega arith;
-            kept = length-set new done (c % q) ∙ s .kept;
-            written = written-one;
-          }
+    -- a result is refused: where the draw stands, and how many candidates were set aside in a row when the bytes ended
+    pub continuing-stop : (n : ℕ) → sampleAt q threshold run bytes position ≡ refusal n →
+        (cond (eqb n 4) (reached done (run + (length bytes - position) / 3)) (stopped n) ≡ standingAfter from whole) × Written from whole old new
+    continuing-stop n e =
+        elim (next-refused q threshold (length old - (done + 1)) run bytes position n e) [
+          | inl end ↦
+              let whole-is : whole ≡ ended (s .numbers) (run + (length bytes - position) / 3) =
+              onwards
+              ∙ rw (end .1) (after-ended (s .numbers) [] _ ∙ ap (λ (xs : List ℕ). ended xs (run + (length bytes - position) / 3)) (append-nil (s .numbers))) in
+              rw (whole-is, end .0) (ap (λ (k : ℕ). reached k (run + (length bytes - position) / 3)) (s .count), s .written)
+          | inr last ↦
+              let whole-is : whole ≡ exhausted (length (s .numbers) + 0) = onwards ∙ rw (last .1) (after-exhausted (s .numbers) 0) in
+              rw (whole-is, last .0) (refl, s .kept)
+        ]
 
-      -- it was the last result
-      pub continuing-all : done + 1 ≡ length old → (complete ≡ standingAfter from whole) × Written from whole old (set new done (c % q))
-      continuing-all n =
-          let none : length old - (done + 1) ≡ 0 = omega arith in
-          let xs = s .numbers ++ (c % q ∷ []) in
-          let e : whole ≡ taken xs = taken-one ∙ rw (none, accept-none) (after-taken xs [] ∙ ap taken (append-nil xs)) in
-          rw e (refl, written-one)
-
-    module _ (l : threshold ≤ c) where
-      -- the candidate is set aside
-      pub continuing-aside : (run + 1 ≡ 128 → ⊥) → Continuing bytes q threshold from before old (position + 3) done (run + 1) new
-      continuing-aside n =
-          let less : run + 1 < 128 = omega (arith, s .less) in
-          let left : length old - done ≡ suc (length old - (done + 1)) = omega (arith, s .unfinished) in
-          record {
-            numbers = s .numbers;
-            same = first ∙ rw (left, add-one run, accept-aside q threshold (length old - (done + 1)) run c _ (verdict-aside threshold run c l (omega arith)));
-            count = s .count;
-            unfinished = s .unfinished;
-            less = less;
-            kept = s .kept;
-            written = s .written;
-          }
-
-      -- it is the last that may be set aside
-      pub continuing-last : run + 1 ≡ 128 → (stopped ≡ standingAfter from whole) × Written from whole old new
-      continuing-last n =
-          let stop : whole ≡ exhausted (length (s .numbers) + 0) = first ∙ rw (accept-last q threshold (length old - (done + 1)) run c _ (verdict-last threshold run c l (omega arith))) (after-exhausted (s .numbers) 0) in
-          rw stop (refl, s .kept)
+    -- a run of candidates at the end of a block is below 128
+    pub continuing-run : (n : ℕ) → sampleAt q threshold run bytes position ≡ refusal n → n ≡ 4 → run + (length bytes - position) / 3 < 128
+    continuing-run n e four =
+        elim (next-refused q threshold (length old - (done + 1)) run bytes position n e) [
+          | inl end ↦ rw (end .1) at (accept-within q threshold (suc (length old - (done + 1))) run (candidates (drop position bytes)) (s .less)) .less
+          | inr last ↦ absurd (omega (arith, last .0))
+        ]

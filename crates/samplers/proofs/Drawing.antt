@@ -12,8 +12,9 @@ use Rattle.calls.specs.Region.{over}
 use Rattle.calls.proofs.Region.{over-append, over-whole}
 use Rattle.sets.specs.declared.Parameters.{Parameters}
 use Rattle.draws.specs.Uniform.{candidates, Drawn, taken, ended, exhausted, accept, after, resume}
+use Rattle.draws.proofs.Accept.{Within, accept-within}
 use Rattle.source.specs.Source.{sourceBytes}
-use Rattle.samplers.specs.Blocks.{drawnFrom, uniform, isEnded, onto, refusal, uniformAnswer, complete, partial, stopped, standingAfter, Written}
+use Rattle.samplers.specs.Blocks.{drawnFrom, uniform, isEnded, onto, refusal, uniformAnswer, reached, stopped, standingAfter, Written}
 use Rattle.samplers.proofs.Continuing.{after-taken, after-ended, after-exhausted, over-none}
 use Rattle.samplers.proofs.Uniform.{drawn-none, drawn-next, drawn-ended, drawn-length, uniform-settled, read-settled}
 
@@ -24,10 +25,11 @@ record Partly (done : ℕ) (drawn : Drawn) (reached run : ℕ) (old new : List �
   count : reached ≡ done + length xs
   written : new ≡ over old done xs
 
-partly : (done reached run : ℕ) (drawn : Drawn) (old new : List ℕ) → partial reached run ≡ standingAfter done drawn → Written done drawn old new → Partly done drawn reached run old new
-partly done reached run (taken xs) old new e w = let z : _≡_ {A = ℕ} 0 1 = cc in absurd (omega arith)
-partly done reached run (ended xs more) old new e w = record { xs = xs; is = cc; count = cc; written = w }
-partly done reached run (exhausted i) old new e w = let z : _≡_ {A = ℕ} 0 1 = cc in absurd (omega arith)
+partly : (wanted used done count aside : ℕ) (drawn : Drawn) (old new : List ℕ) → Within wanted used drawn → (count ≡ done + wanted → ⊥) →
+    reached count aside ≡ standingAfter done drawn → Written done drawn old new → Partly done drawn count aside old new
+partly wanted used done count aside (taken xs) old new all n e w = let z : count ≡ done + length xs = cc in absurd (n (omega arith))
+partly wanted used done count aside (ended xs more) old new short n e w = record { xs = xs; is = cc; count = cc; written = w }
+partly wanted used done count aside (exhausted i) old new all n e w = let z : _≡_ {A = ℕ} 0 1 = cc in absurd (omega arith)
 
 -- a block that gave all results
 record Wholly (done : ℕ) (drawn : Drawn) (old new : List ℕ) : Type 0 where
@@ -35,20 +37,22 @@ record Wholly (done : ℕ) (drawn : Drawn) (old new : List ℕ) : Type 0 where
   is : drawn ≡ taken xs
   written : new ≡ over old done xs
 
-wholly : (done : ℕ) (drawn : Drawn) (old new : List ℕ) → complete ≡ standingAfter done drawn → Written done drawn old new → Wholly done drawn old new
-wholly done (taken xs) old new e w = record { xs = xs; is = refl; written = w }
-wholly done (ended xs more) old new e w = let z : _≡_ {A = ℕ} 0 1 = cc in absurd (omega arith)
-wholly done (exhausted i) old new e w = let z : _≡_ {A = ℕ} 0 1 = cc in absurd (omega arith)
+wholly : (wanted used done count aside : ℕ) (drawn : Drawn) (old new : List ℕ) → Within wanted used drawn → count ≡ done + wanted →
+    reached count aside ≡ standingAfter done drawn → Written done drawn old new → Wholly done drawn old new
+wholly wanted used done count aside (taken xs) old new all n e w = record { xs = xs; is = refl; written = w }
+wholly wanted used done count aside (ended xs more) old new short n e w = let z : count ≡ done + length xs = cc in absurd (omega (arith, short .finished))
+wholly wanted used done count aside (exhausted i) old new all n e w = let z : _≡_ {A = ℕ} 0 1 = cc in absurd (omega arith)
 
 -- a block in which a draw was refused
-record Refused (drawn : Drawn) : Type 0 where
+record Refused (drawn : Drawn) (number : ℕ) : Type 0 where
   place : ℕ
   is : drawn ≡ exhausted place
+  five : number ≡ 5
 
-refused : (done : ℕ) (drawn : Drawn) → stopped ≡ standingAfter done drawn → Refused drawn
-refused done (taken xs) e = let z : _≡_ {A = ℕ} 0 1 = cc in absurd (omega arith)
-refused done (ended xs more) e = let z : _≡_ {A = ℕ} 0 1 = cc in absurd (omega arith)
-refused done (exhausted i) e = record { place = i; is = refl }
+refused : (done number : ℕ) (drawn : Drawn) → stopped number ≡ standingAfter done drawn → Refused drawn number
+refused done number (taken xs) e = let z : _≡_ {A = ℕ} 0 1 = cc in absurd (omega arith)
+refused done number (ended xs more) e = let z : _≡_ {A = ℕ} 0 1 = cc in absurd (omega arith)
+refused done number (exhausted i) e = record { place = i; is = refl; five = cc }
 
 -- after some blocks, none of which sufficed: the numbers taken stand in the output
 pub record Drawing (p : Parameters) (seed : List ℕ) (size first : ℕ) (old : List ℕ) (counter done run : ℕ) (new : List ℕ) : Type 0 where
@@ -86,6 +90,10 @@ module _ {p : Parameters} {seed : List ℕ} {size first : ℕ} {old : List ℕ} 
   abbrev over-block : Drawn
   over-block = accept (p .q) (p .zqrej) (length new - done) run (candidates (sourceBytes p seed counter size))
 
+  -- how many results it gives
+  sized : Within (length new - done) (length (candidates (sourceBytes p seed counter size)) + run) over-block
+  sized = accept-within (p .q) (p .zqrej) (length new - done) run (candidates (sourceBytes p seed counter size)) (s .less)
+
   -- with it, one block more
   next : drawnFrom p seed size first (length old) (suc (s .blocks)) ≡ after (s .numbers) over-block
   unfolding resume
@@ -103,13 +111,14 @@ module _ {p : Parameters} {seed : List ℕ} {size first : ℕ} {old : List ℕ} 
 
   module _ (after-block : List ℕ) where
     -- the next block does not suffice either
-    pub drawing-more : (reached aside : ℕ) → 384 ≤ size → length after-block ≡ length new → partial reached aside ≡ standingAfter done over-block → Written done over-block new after-block
-        → Drawing p seed size first old (counter + 1) reached aside after-block
-    drawing-more reached aside large kept e w =
-        let block = partly done reached aside over-block new after-block e w in
+    pub drawing-more : (count aside : ℕ) → 384 ≤ size → length after-block ≡ length new → (count ≡ length after-block → ⊥) →
+        reached count aside ≡ standingAfter done over-block → Written done over-block new after-block
+        → Drawing p seed size first old (counter + 1) count aside after-block
+    drawing-more reach aside large kept n e w =
+        let block = partly _ _ done reach aside over-block new after-block sized (λ all. n (omega (arith, s .kept, s .unfinished))) e w in
         let drawn : drawnFrom p seed size first (length old) (suc (s .blocks)) ≡ ended (s .numbers ++ block .xs) aside = next ∙ ap (after (s .numbers)) (block .is) ∙ after-ended (s .numbers) (block .xs) aside in
         let bounds = drawn-ended p seed size first (length old) (suc (s .blocks)) _ aside large drawn in
-        let count : reached ≡ length (s .numbers ++ block .xs) = rw length-append (omega (arith, block .count, s .count)) in
+        let count : reach ≡ length (s .numbers ++ block .xs) = rw length-append (omega (arith, block .count, s .count)) in
         record {
           blocks = suc (s .blocks);
           numbers = s .numbers ++ block .xs;
@@ -125,11 +134,12 @@ module _ {p : Parameters} {seed : List ℕ} {size first : ℕ} {old : List ℕ} 
         }
 
     -- the next block gives all results
-    pub drawing-all : complete ≡ standingAfter done over-block → Written done over-block new after-block
+    pub drawing-all : (count aside : ℕ) → length after-block ≡ length new → count ≡ length after-block →
+        reached count aside ≡ standingAfter done over-block → Written done over-block new after-block
         → (onto (counter + 1) ≡ uniformAnswer p seed size first (length old)) × ((xs : List ℕ) → uniform p seed size first (length old) ≡ taken xs → after-block ≡ xs)
     unfolding uniformAnswer
-    drawing-all e w =
-        let block = wholly done over-block new after-block e w in
+    drawing-all reach aside kept n e w =
+        let block = wholly _ _ done reach aside over-block new after-block sized (omega (arith, s .kept, s .unfinished)) e w in
         let zs = s .numbers ++ block .xs in
         let drawn : drawnFrom p seed size first (length old) (suc (s .blocks)) ≡ taken zs = next ∙ ap (after (s .numbers)) (block .is) ∙ after-taken (s .numbers) (block .xs) in
         let whole = uniform-settled p seed size first (length old) (suc (s .blocks)) (taken zs) (s .few) refl drawn in
@@ -139,11 +149,12 @@ module _ {p : Parameters} {seed : List ℕ} {size first : ℕ} {old : List ℕ} 
         (rw (whole, read) (ap onto (omega (arith, s .risen))), λ xs t. let same : taken xs ≡ taken zs = sym t ∙ whole in cc)
 
     -- a result is refused in the next block
-    pub drawing-refused : stopped ≡ standingAfter done over-block
-        → (refusal 5 ≡ uniformAnswer p seed size first (length old)) × ((xs : List ℕ) → uniform p seed size first (length old) ≡ taken xs → after-block ≡ xs)
+    pub drawing-refused : (number : ℕ) → stopped number ≡ standingAfter done over-block
+        → (refusal number ≡ uniformAnswer p seed size first (length old))
+        × ((xs : List ℕ) → uniform p seed size first (length old) ≡ taken xs → after-block ≡ xs)
     unfolding uniformAnswer
-    drawing-refused e =
-        let block = refused done over-block e in
+    drawing-refused number e =
+        let block = refused done number over-block e in
         let drawn : drawnFrom p seed size first (length old) (suc (s .blocks)) ≡ exhausted (length (s .numbers) + block .place) = next ∙ ap (after (s .numbers)) (block .is) ∙ after-exhausted (s .numbers) (block .place) in
         let whole = uniform-settled p seed size first (length old) (suc (s .blocks)) _ (s .few) refl drawn in
-        (rw whole, λ xs t. let z : _≡_ {A = ℕ} 0 1 = cc in absurd (omega arith))
+        (rw (whole, block .five), λ xs t. let z : _≡_ {A = ℕ} 0 1 = cc in absurd (omega arith))

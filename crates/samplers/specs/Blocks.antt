@@ -47,6 +47,11 @@ abbrev pub onward : Advance → Onward
 onward (advance.Counter counter) = onto counter
 onward (advance.Refused number) = refusal number
 
+-- the number of the refusal, and 0 where there is none
+abbrev pub refusedBy : Onward → ℕ
+refusedBy (onto counter) = 0
+refusedBy (refusal number) = number
+
 -- with the counter afterwards: 5 where one result's 128th candidate in a row was set aside
 abbrev pub onwardFrom : ℕ → Drawn → Onward
 onwardFrom counter (taken xs) = onto counter
@@ -57,23 +62,26 @@ onwardFrom counter (exhausted i) = refusal 5
 unfoldable pub uniformAnswer : Parameters → List ℕ → ℕ → ℕ → ℕ → Onward
 uniformAnswer p seed size counter wanted = onwardFrom (counter + blocksRead p seed size counter wanted) (uniform p seed size counter wanted)
 
--- where a draw stands after one block: it has all its results, or so many of them and a run of candidates set aside, or it is refused
+-- where a draw stands after one block: so many results are done, with a run of candidates set aside since, or it is refused with a number
 pub data Standing : Type 0 where
-  complete : Standing
-  partial : ℕ → ℕ → Standing
-  stopped : Standing
+  reached : ℕ → ℕ → Standing
+  stopped : ℕ → Standing
 
 -- the same for each case of the code's answer
 abbrev pub standing : Progress → Standing
-standing progress.All = complete
-standing (progress.More done run) = partial done run
-standing progress.Exhausted = stopped
+standing (progress.Reached done run) = reached done run
+standing (progress.Refused number) = stopped number
+
+-- the number of the refusal, and 0 where there is none
+abbrev pub stoppedBy : Standing → ℕ
+stoppedBy (reached done run) = 0
+stoppedBy (stopped number) = number
 
 -- where a draw stands that goes on over one block after some results were done
 abbrev pub standingAfter : ℕ → Drawn → Standing
-standingAfter done (taken xs) = complete
-standingAfter done (ended xs run) = partial (done + length xs) run
-standingAfter done (exhausted i) = stopped
+standingAfter done (taken xs) = reached (done + length xs) 0
+standingAfter done (ended xs run) = reached (done + length xs) run
+standingAfter done (exhausted i) = stopped 5
 
 -- what it leaves in the output: the numbers taken stand behind those done; of a draw that is refused only the length is promised
 abbrev pub Written : ℕ → Drawn → List ℕ → List ℕ → Type 0
@@ -82,7 +90,7 @@ Written done (ended xs run) old new = new ≡ over old done xs
 Written done (exhausted i) old new = length new ≡ length old
 
 -- two results were done, a third is taken, and two candidates were set aside since
-standingAfter-example : standingAfter 2 (ended (7 ∷ []) 2) ≡ partial 3 2
+standingAfter-example : standingAfter 2 (ended (7 ∷ []) 2) ≡ reached 3 2
 standingAfter-example = refl
 
 onwardFrom-example : onwardFrom 9 (exhausted 3) ≡ refusal 5

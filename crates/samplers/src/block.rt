@@ -1,13 +1,38 @@
 // One block of a uniform draw (specs/Blocks.antt).
 use crate::Progress;
+use draws::Draw;
 use sets::Parameters;
 ghost use mathlib.Core.Path.{_≡_};
-ghost use Prim.Native.Nat.{_-_, _≤_, _<_};
+ghost use mathlib.Core.Bool.{cond};
+ghost use Prim.Native.Nat.{_+_, _-_, _/_, _≤_, _<_};
+ghost use lib.Dec.{eqb};
 ghost use lib.ListN.{length};
 ghost use Rattle.sets.specs.Rules.{Rules};
 ghost use Rattle.draws.specs.Uniform.{candidates, accept};
 ghost use Rattle.source.specs.Source.{sourceBytes};
-ghost use Rattle.samplers.specs.Blocks.{standing, standingAfter, Written};
+ghost use Rattle.samplers.specs.Blocks.{reached, stopped, standing, stoppedBy, standingAfter, Written};
+
+// Where a draw stands when its next result is refused: by 4 the block ended, and the candidates of the bytes left in it were all set aside.
+fn stopped_at(number: u8, done: usize, run: u32, left: usize) -> Progress
+    requires { ⌜ (number ≡ 4 → run + left / 3 < 128) ⌝ }
+    ensures { λ r. ⌜ standing r ≡ cond (eqb number 4) (reached done (run + left / 3)) (stopped number) ⌝ }
+{
+    if number == 4 {
+        Progress::Reached(done, run + (left / 3) as u32)
+    } else {
+        Progress::Refused(number)
+    }
+}
+
+// The number of the refusal in a block, and 0 where there is none.
+pub fn refusal_of(progress: Progress) -> u8
+    ensures { λ r. ⌜ r ≡ stoppedBy (standing progress) ⌝ }
+{
+    match progress {
+        Progress::Reached(_, _) => 0,
+        Progress::Refused(number) => number,
+    }
+}
 
 // Goes on with a draw over the candidates of one block: `from` results are done, and `before` candidates were set aside in a row since.
 pub fn continue_draw(
@@ -22,29 +47,25 @@ pub fn continue_draw(
     ensures answer { λ r. ⌜ standing r ≡ standingAfter from (accept q threshold (length (now (out .entry)) - from) before (candidates (now (bytes .entry)))) ⌝ }
     ensures result { λ _. ⌜ Written from (accept q threshold (length (now (out .entry)) - from) before (candidates (now (bytes .entry)))) (now (out .entry)) (now (out .exit)) ⌝ }
 {
-    let wanted = out.len();
-    let last = bytes.len() - 3;
     let mut position: usize = 0;
     let mut done = from;
     let mut run = before;
-    while position <= last {
-        let candidate = draws::uniform::candidate_at(bytes, position);
-        position += 3;
-        if candidate < threshold {
-            out[done] = candidate % q;
-            done += 1;
-            run = 0;
-            if done == wanted {
-                return Progress::All;
-            }
-        } else {
-            run += 1;
-            if run == 128 {
-                return Progress::Exhausted;
-            }
-        }
+    while done < out.len() {
+        let drawn = draws::uniform::draw_one(bytes, position, q, threshold, run);
+        let Draw::Number(residue, next) = drawn else {
+            return stopped_at(
+                draws::uniform::refusal_of(drawn),
+                done,
+                run,
+                bytes.len() - position,
+            );
+        };
+        out[done] = residue;
+        done += 1;
+        position = next;
+        run = 0;
     }
-    Progress::More(done, run)
+    Progress::Reached(done, 0)
 }
 
 // Goes on with a draw over the block of a counter, which it reads into `bytes`.

@@ -8,7 +8,7 @@ ghost use Rattle.maths.specs.Integer.{residue};
 ghost use Rattle.sets.specs.Rules.{Rules, ByteRules};
 ghost use Rattle.sets.specs.Derived.{multiplierCount};
 ghost use Rattle.draws.specs.Uniform.{taken};
-ghost use Rattle.samplers.specs.Blocks.{onward, uniform, uniformAnswer};
+ghost use Rattle.samplers.specs.Blocks.{onward, refusedBy, uniform, uniformAnswer};
 ghost use Rattle.samplers.specs.Seeded.{errorCount, errorsDrawn, multipliersDrawn};
 
 pub mod block;
@@ -20,11 +20,20 @@ pub enum Advance {
     Refused(u8),
 }
 
-// What one block of a uniform draw answers: all results are there; so many are, with a run of candidates set aside; or the run is too long.
+// The number of a draw's refusal, and 0 where it is none.
+pub fn refusal_of(advance: Advance) -> u8
+    ensures { λ r. ⌜ r ≡ refusedBy (onward advance) ⌝ }
+{
+    match advance {
+        Advance::Counter(_) => 0,
+        Advance::Refused(number) => number,
+    }
+}
+
+// What one block of a uniform draw answers: so many results are there, with a run of candidates set aside since, or the number of a refusal.
 pub enum Progress {
-    All,
-    More(usize, u32),
-    Exhausted,
+    Reached(usize, u32),
+    Refused(u8),
 }
 
 // Draws a uniform residue for each number of `out`, from blocks of `size` bytes, the first of them with the counter `first`.
@@ -45,14 +54,14 @@ pub fn residues_from(
     loop {
         let progress = block::draw_block(p, seed, size, counter, done, run, out);
         counter += 1;
-        match progress {
-            Progress::All => return Advance::Counter(counter),
-            Progress::Exhausted => return Advance::Refused(5),
-            Progress::More(reached, aside) => {
-                done = reached;
-                run = aside;
-            }
+        let Progress::Reached(reached, aside) = progress else {
+            return Advance::Refused(block::refusal_of(progress));
+        };
+        if reached == out.len() {
+            return Advance::Counter(counter);
         }
+        done = reached;
+        run = aside;
     }
 }
 

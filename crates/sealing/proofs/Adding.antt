@@ -1,7 +1,7 @@
 -- The first part of a ciphertext: one public polynomial drawn and sent, the products added up over all polynomials, and what they stand for.
 -- Assumes nothing.
 use mathlib.Core.Path.{_≡_, refl, sym, ap, subst, _∙_}
-use mathlib.Core.Bool.{true, false}
+use mathlib.Core.Bool.{true, false, not}
 use mathlib.Core.List.{List, _++_}
 use Prim.Native.Nat.{ℕ, _+_, _-_, _*_, _^_, _≤_, _<_}
 use native.Mathlib.Nat.{mul-le-mul-left}
@@ -9,6 +9,7 @@ use native.Mathlib.Numerals.{add-one}
 use native.Mathlib.Omega.{arith}
 use lib.ListN.{length, take, drop, replicate}
 use Rattle.maths.specs.Vector.{at}
+use Rattle.calls.specs.Outcome.{accepted, refused, refuse}
 use Rattle.calls.specs.Region.{vector}
 use Rattle.calls.proofs.Region.{region-length, over-lent}
 use Rattle.transforms.specs.Ready.{AllBelow}
@@ -151,11 +152,13 @@ module _ (set : ℕ) (low : set < 13) (seed ms : List ℕ) where
           y-is = rw is (result (o .xs) (o .drawn-is));
         }
 
-    -- a refused draw refuses all
-    pub sampled-refused : (number : ℕ) → i < setOf set .t → uniformAnswer (setOf set) seed (setOf set .bytpca) counter (setOf set .n) ≡ refusal number → allTaken (setOf set .t) (publicDrawn (setOf set) seed) ≡ false
+    -- a refused draw refuses all with its number
+    pub sampled-refused : (number : ℕ) → i < setOf set .t → uniformAnswer (setOf set) seed (setOf set .bytpca) counter (setOf set .n) ≡ refusal number →
+        refused number 0 ≡ refuse (not (allTaken (setOf set .t) (publicDrawn (setOf set) seed))) 5 0 accepted
     sampled-refused number h answer =
-        allTaken-false (setOf set .t) (publicDrawn (setOf set) seed) i h
-        (not-taken (publicDrawn (setOf set) seed i) (λ xs d. answer-refusal (setOf set) seed (setOf set .bytpca) counter (setOf set .n) number answer .1 xs (sym draw-is ∙ d)))
+        let none = answer-refusal (setOf set) seed (setOf set .bytpca) counter (setOf set .n) number answer in
+        let one = not-taken (publicDrawn (setOf set) seed i) (λ xs d. none .1 xs (sym draw-is ∙ d)) in
+        rw (allTaken-false (setOf set .t) (publicDrawn (setOf set) seed) i h one, none .0)
 
   -- one polynomial more
   pub adding-more : {size : ℕ} {total x₀ y₀ : List ℕ} {counter i : ℕ} (new x y : List ℕ) (next : ℕ) → Adding set seed ms size total x₀ y₀ counter i → i < setOf set .t → Sampled set seed i next y → x ≡ sent (setOf set) 2 (vector (setOf set .k + 1) ms i)
@@ -182,11 +185,12 @@ module _ (set : ℕ) (low : set < 13) (seed ms : List ℕ) where
 
   -- after the last polynomial
   pub adding-all : {size : ℕ} {total x y : List ℕ} {counter i : ℕ} → Adding set seed ms size total x y counter i → setOf set .t ≤ i
-      → (true ≡ allTaken (setOf set .t) (publicDrawn (setOf set) seed))
-      × (true ≡ true → total ≡ totals (setOf set .q) (transformSize (setOf set) 2) (setOf set .t) (λ j. sent (setOf set) 2 (vector (setOf set .k + 1) ms j)) (λ j. sent (setOf set) 2 (publicPolynomial (setOf set) seed j)))
+      → (accepted ≡ refuse (not (allTaken (setOf set .t) (publicDrawn (setOf set) seed))) 5 0 accepted)
+      × (accepted ≡ accepted → total ≡ totals (setOf set .q) (transformSize (setOf set) 2) (setOf set .t)
+      (λ j. sent (setOf set) 2 (vector (setOf set .k + 1) ms j)) (λ j. sent (setOf set) 2 (publicPolynomial (setOf set) seed j)))
   adding-all {i = i} a h =
       let all : i ≡ setOf set .t = omega arith in
-      (sym (rw all at (a .drawn)), λ e. rw all at (a .sum))
+      (rw (rw all at (a .drawn)), λ e. rw all at (a .sum))
 
   -- a public polynomial has n numbers
   polynomial-length : allTaken (setOf set .t) (publicDrawn (setOf set) seed) ≡ true → (i : ℕ) → i < setOf set .t → length (publicPolynomial (setOf set) seed i) ≡ setOf set .n

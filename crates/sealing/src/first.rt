@@ -2,7 +2,7 @@
 use calls::Answer;
 use samplers::Advance;
 ghost use mathlib.Core.Path.{_≡_};
-ghost use mathlib.Core.Bool.{true, not};
+ghost use mathlib.Core.Bool.{not};
 ghost use mathlib.Core.List.{List};
 ghost use Prim.Native.Nat.{ℕ, _+_, _≤_, _<_};
 ghost use lib.ListN.{length, replicate};
@@ -26,17 +26,15 @@ fn send_drawn(set: usize, powers: &[u32], seed: &[u8], counter: u32, y: &mut [u3
 {
     let p = sets::parameters_of(set);
     let n = p.n;
-    let advance = samplers::residues_from(p, seed, p.bytpca, counter, &mut y[0..n]);
-    match advance {
-        Advance::Refused(number) => Advance::Refused(number),
-        Advance::Counter(next) => {
-            transformed::send_first(set, 2, powers, y, n);
-            Advance::Counter(next)
-        }
-    }
+    let drawn = samplers::residues_from(p, seed, p.bytpca, counter, &mut y[0..n]);
+    let Advance::Counter(_) = drawn else {
+        return drawn;
+    };
+    transformed::send_first(set, 2, powers, y, n);
+    drawn
 }
 
-// Adds up in `total` the products of the multiplier polynomials and the public polynomials, all of them sent; false where a draw is refused.
+// Adds up in `total` the products of the multiplier polynomials and the public polynomials, all of them sent; the first draw that is refused decides.
 fn sum_products(
     set: usize,
     seed: &[u8],
@@ -45,24 +43,25 @@ fn sum_products(
     total: &mut [u32],
     x: &mut [u32],
     y: &mut [u32],
-) -> bool
+) -> Answer
     requires { ⌜ (1 ≤ set) × (set < 13) × (length (now seed) ≡ 32) × Multipliers (setOf set) (now multipliers) × (now powers ≡ rootPowers (setOf set) 2) × (now total ≡ replicate (transformSize (setOf set) 2) 0) × (length (now x) ≡ transformSize (setOf set) 2) × (length (now y) ≡ transformSize (setOf set) 2) ⌝ }
-    ensures answer { λ r. ⌜ r ≡ allTaken (setOf set .t) (publicDrawn (setOf set) (now (seed .entry))) ⌝ }
-    ensures result { λ r. ⌜ (r ≡ true → now (total .exit) ≡ totals (setOf set .q) (transformSize (setOf set) 2) (setOf set .t) (λ i. sent (setOf set) 2 (vector (setOf set .k + 1) (now (multipliers .entry)) i)) (λ i. sent (setOf set) 2 (publicPolynomial (setOf set) (now (seed .entry)) i))) ⌝ }
+    ensures answer { λ r. ⌜ outcome r ≡ refuse (not (allTaken (setOf set .t) (publicDrawn (setOf set) (now (seed .entry))))) 5 0 accepted ⌝ }
+    ensures result { λ r. ⌜ (outcome r ≡ accepted → now (total .exit) ≡ totals (setOf set .q) (transformSize (setOf set) 2) (setOf set .t) (λ i. sent (setOf set) 2 (vector (setOf set .k + 1) (now (multipliers .entry)) i)) (λ i. sent (setOf set) 2 (publicPolynomial (setOf set) (now (seed .entry)) i))) ⌝ }
 {
     let p = sets::parameters_of(set);
     let mut counter: u32 = 0;
     let mut i: usize = 0;
     while i < p.t {
         crate::vectors::send_multipliers(set, 2, powers, multipliers, i, x);
-        let Advance::Counter(next) = send_drawn(set, powers, seed, counter, y) else {
-            return false;
+        let drawn = send_drawn(set, powers, seed, counter, y);
+        let Advance::Counter(next) = drawn else {
+            return Answer::Refused(samplers::refusal_of(drawn), 0);
         };
         transformed::accumulate(total, x, y, p.q);
         counter = next;
         i += 1;
     }
-    true
+    Answer::Done
 }
 
 // The first part, with the table of powers and the vectors on the way in lent slices.
@@ -83,9 +82,10 @@ fn first_through(
     let p = sets::parameters_of(set);
     roots::load_powers(set, 2, powers);
     calls::clear(total);
-    if !sum_products(set, seed, multipliers, powers, total, x, y) {
-        return Answer::Refused(5, 0);
-    }
+    let summed = sum_products(set, seed, multipliers, powers, total, x, y);
+    let Answer::Done = summed else {
+        return summed;
+    };
     packing::pack_into(total, p.width, out);
     Answer::Done
 }

@@ -47,20 +47,18 @@ fn seal_numbers(
     let p = sets::parameters_of(set);
     let middle = sets::derived::packed_bytes(p.d2, p.width as usize);
     let first = first::seal_first(set, seed, multipliers, &mut ciphertext[0..middle]);
-    match first {
-        Answer::Refused(number, place) => Answer::Refused(number, place),
-        Answer::Done => {
-            let end = ciphertext.len();
-            second::seal_second(
-                set,
-                numbers,
-                multipliers,
-                message,
-                &mut ciphertext[middle..end],
-            );
-            Answer::Done
-        }
-    }
+    let Answer::Done = first else {
+        return first;
+    };
+    let end = ciphertext.len();
+    second::seal_second(
+        set,
+        numbers,
+        multipliers,
+        message,
+        &mut ciphertext[middle..end],
+    );
+    Answer::Done
 }
 
 // Holds the numbers of a public key and the multipliers of a seed, one after the other, in the work slice; false where a number of the key is q or more.

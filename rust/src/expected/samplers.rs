@@ -45,10 +45,10 @@ fn two_blocks(s: &Set, aside: usize) -> String {
     second[..3 * aside].fill(255);
     let before = uniform(s, 28, first.clone(), || None).unwrap();
     let answer = match uniform(s, 40, first, || Some(second.clone())) {
-        Ok(drawn) => format!("all {}", written(drawn, 40)),
-        Err(_) => "exhausted refused".to_string(),
+        Ok(drawn) => format!("reached 40 0 {}", written(drawn, 40)),
+        Err(refusal) => format!("refused {}", refusal.number),
     };
-    format!("blocks {} {aside} more 28 100 {} {answer}\n", s.number, written(before, 40))
+    format!("blocks {} {aside} reached 28 100 {} {answer}\n", s.number, written(before, 40))
 }
 
 pub fn text() -> String {

@@ -30,11 +30,18 @@ copy-at-requires c κs =
 
 returns : tie.Need-returns
 returns c =
-    let start = c .before .before .before .before .before .before .before .before .before .before .before .before .before .before .before .before .before .before .before .before .before .before .before .before in
-    let pre = start .pre in
-    let parameters = c .before .before .before .before .before .before .before .before .before .before .before .before .before .before .before .before .before .parameters-of .ensures in
-    let decided = draws-decide (setOf (start .args .set)) (start .args .seed .now) _ _ (secret-made (start .args .seed .now) parameters (pre .6) (c .before .before .before .before .before .before .before .before .before .before .before .before .before .before .before .source-bytes .ensures)) (public-made (start .args .seed .now) parameters (pre .7) (c .before .before .before .before .before .before .before .before .before .before .before .source-bytes2 .ensures)) (c .before .before .before .before .before .store-key .ensures .0) ∙ ap outcome (c .before .stored .given .1) in
-    (sym decided, (sym (leaves-refused _ _ decided), sym (leaves-refused _ _ decided)))
+    let stored = c .before .before .before .before in
+    let public = stored .before .before .before .before .before .before in
+    let secret = public .before .before .before .before in
+    let known = secret .before .before in
+    let start = known .before .before .before .before .before .before .before in
+    let seed = start .args .seed .now in
+    let parameters = known .parameters-of .ensures in
+    let first = secret-made seed parameters (start .pre .6) (secret .source-bytes .ensures) in
+    let second = public-made seed parameters (start .pre .7) (public .source-bytes2 .ensures) in
+    let told = ap outcome (c .enum-told2 .given .1) in
+    let decided = draws-decide (setOf (start .args .set)) seed _ _ first second (stored .store-key .ensures .0) ∙ told in
+    (told ∙ sym decided, (sym (leaves-refused _ _ decided), sym (leaves-refused _ _ decided)))
 
 returns-2 : tie.Need-returns-2
 returns-2 c =
@@ -64,12 +71,12 @@ generate-through-spec =
     store-key-requires
     (λ c. search needs)
     (λ c. search needs)
-    write-public-key-requires
-    copy-at-requires
     (λ c. search needs)
     (λ c. search needs)
     (λ c. search needs)
     returns
+    write-public-key-requires
+    copy-at-requires
     (λ c. search needs)
     (λ c. search needs)
     (λ c. search needs)

@@ -1,6 +1,6 @@
 -- The secret is drawn first; where it is, the vectors are stored and the public draws decide.
 -- Assumes nothing.
-use mathlib.Core.Path.{refl, sym, ap, _∙_}
+use mathlib.Core.Path.{sym, ap, _∙_}
 use mathlib.Core.Bool.{not}
 use Rattle.calls.specs.Outcome.{outcome, accepted, refuse}
 use Rattle.calls.proofs.Outcome.{accepted-refused}
@@ -23,9 +23,14 @@ store-vectors-requires c κs =
 
 returns : tie.Need-returns
 returns c =
-    let start = c .before .before .before .before .before .before .before .before .before .before in
+    let start = c .before .before .before .before .before .before .before .before .before in
     let p = setOf (start .args .set) in
-    (draw-refused (isTaken (secretDrawn p (start .args .seedsk .now))) (refuse (not (allTaken (p .t) (publicDrawn p (start .args .seedpk .now)))) 5 0 accepted) (sym (c .before .before .before .before .before .draw-secret .ensures .0) ∙ ap outcome (c .before .drawn .given .1)), λ e. absurd (accepted-refused e refl))
+    let told = ap outcome (c .enum-told2 .given .1) in
+    let public = refuse (not (allTaken (p .t) (publicDrawn p (start .args .seedpk .now)))) 5 0 accepted in
+    let decided =
+    draw-refused (isTaken (secretDrawn p (start .args .seedsk .now))) public
+    (sym (c .before .before .before .before .draw-secret .ensures .0) ∙ told) in
+    (told ∙ decided, λ e. absurd (accepted-refused e told))
 
 returns-2 : tie.Need-returns-2
 returns-2 c =
@@ -47,8 +52,8 @@ store-key-spec =
     (λ c κs. search needs)
     (λ c. search needs)
     (λ c. search needs)
-    store-vectors-requires
     (λ c. search needs)
     returns
+    store-vectors-requires
     (λ c. search needs)
     returns-2)

@@ -5,13 +5,14 @@ use mathlib.Core.List.{List, _++_}
 use Prim.Native.Nat.{ℕ, _+_, _-_, _≤_}
 use native.Mathlib.Omega.{arith}
 use lib.ListN.{length, take, drop}
+use Rattle.calls.specs.Outcome.{refused}
 use Rattle.calls.proofs.Outcome.{refused-call, accepted-call}
 use Rattle.sets.specs.declared.Parameters.{Parameters}
 use Rattle.sets.specs.Table.{setOf}
 use Rattle.sets.specs.Derived.{transformSize}
 use Rattle.sets.proofs.Rules.{rules, byteRules}
 use Rattle.samplers.specs.declared.Advance.the-variants.{Counter}
-use Rattle.samplers.specs.Blocks.{uniform, uniformAnswer, onward, blocksRead}
+use Rattle.samplers.specs.Blocks.{uniform, uniformAnswer, onward, refusedBy, blocksRead}
 use Rattle.samplers.proofs.Answers.{Onto, answer-onto, answer-refusal}
 use Rattle.transformed.specs.Placed.{Placed}
 use Rattle.scheme.specs.Encryption.{storedSecret}
@@ -88,20 +89,26 @@ part-read-end c = front-room (drawn (c .before .before .before .before .before))
 read-requires : tie.Need-read-requires
 read-requires c κs =
     let start = c .before .before .before .before .before .before .before .before .before .before .before .before .before .before in
-    let p = setOf (start .args .set) in (
+    let p = setOf (start .args .set) in
+    let draw = c .before .before .before .before .before .before .before in
+    let told = c .before .before .before .enum-told .given .1 in (
       start .pre .0,
       start .pre .1,
       start .pre .3,
-      subst⁻¹ (λ (l : List ℕ). Placed p 3 (transformSize p 3) l) (stored (c .before .before .before .before .before .before .before) (c .before .before .before .enum-told2 .given .1)) (stored-placed (c .before .before .before .before .before .before .before) (c .before .before .before .enum-told2 .given .1)),
+      subst⁻¹ (λ (l : List ℕ). Placed p 3 (transformSize p 3) l) (stored draw told) (stored-placed draw told),
       start .pre .4,
     )
 
 returns : tie.Need-returns
 returns c =
-    let start = c .before .before .before .before .before .before .before .before .before .before .before in
+    let start = c .before .before .before .before .before .before .before .before .before .before .before .before in
     let p = setOf (start .args .set) in
     let seed = start .args .seed .now in
-    refused-call _ _ (secret-refused p seed (answer-refusal p seed (p .bytpcs) 0 (p .d3) _ (answered (c .before .before .before .before) ∙ ap onward (c .enum-told .given .1)) .1))
+    let told = ap onward (c .before .enum-told2 .given .1) in
+    let none = answer-refusal p seed (p .bytpcs) 0 (p .d3) _ (answered (c .before .before .before .before .before) ∙ told) in
+    let five = c .refusal-of .ensures ∙ ap refusedBy told ∙ none .0 in
+    let call = refused-call _ _ (secret-refused p seed (none .1)) in
+    (ap (λ (k : ℕ). refused k 0) five ∙ call .0, call .1)
 
 returns-2 : tie.Need-returns-2
 returns-2 c =
@@ -109,7 +116,7 @@ returns-2 c =
     let p = setOf (start .args .set) in
     let seed = start .args .seed .now in
     let ct = start .args .ciphertext .now in
-    let told = c .before .before .before .before .before .before .enum-told2 .given .1 in
+    let told = c .before .before .before .before .before .before .enum-told .given .1 in
     let found = secret (c .before .before .before .before .before .before .before .before .before .before) told in
     accepted-call _ _ (secret-taken p seed (found .xs) (found .drawn-is) .0)
     (c .before .before .read .ensures ∙ ap (λ (l : List ℕ). openedMessage p l ct) (stored (c .before .before .before .before .before .before .before .before .before .before) told) ∙ opened-message p seed ct)
@@ -125,12 +132,13 @@ open-spec =
     residues-from-requires
     (λ c. search needs)
     (λ c. search needs)
+    (λ c κs. search needs)
+    (λ c. search needs)
+    returns
     (λ c. search needs)
     (λ c. search needs)
     part-read-end
     read-requires
-    (λ c. search needs)
-    returns
     (λ c. search needs)
     (λ c. search needs)
     returns-2)

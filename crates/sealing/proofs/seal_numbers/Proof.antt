@@ -63,9 +63,12 @@ seal-second-requires c κs =
 
 returns : tie.Need-returns
 returns c =
-    let start = c .before .before .before .before .before .before .before .before .before .before .before .before .before .before .before in
-    let first = c .before .before .before .before .before .seal-first .ensures in
-    front-refused (start .args .ciphertext .now) _ _ _ (c .before .before .before .before .before .before .before .packed-bytes .result) (sym (first .0) ∙ ap outcome (c .before .first .given .1)) (first .1)
+    let start = c .before .before .before .before .before .before .before .before .before .before .before .before .before .before in
+    let first = c .before .before .before .before .seal-first .ensures in
+    let told = ap outcome (c .enum-told2 .given .1) in
+    let bytes = c .before .before .before .before .before .before .packed-bytes .result in
+    let call = front-refused (start .args .ciphertext .now) _ _ _ bytes (sym (first .0) ∙ told) (first .1) in
+    (told ∙ call .0, call .1)
 
 returns-2 : tie.Need-returns-2
 returns-2 c =
@@ -87,11 +90,11 @@ seal-numbers-spec =
     seal-first-requires
     (λ c. search needs)
     (λ c. search needs)
+    (λ c. search needs)
+    returns
     sub-seal-second
     part-seal-second-start
     (λ c. search needs)
     seal-second-requires
-    (λ c. search needs)
-    returns
     (λ c. search needs)
     returns-2)

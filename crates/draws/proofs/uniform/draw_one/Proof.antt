@@ -9,22 +9,23 @@ use Rattle.draws.proofs.uniform.draw_one.Statement.{statement}
 use Rattle.draws.proofs.uniform.draw_one.Tie as tie
 
 abbrev Inv-loop : tie.InvT-loop
-Inv-loop bytes at q threshold last position₀ run₀ position run = Sampling bytes at q threshold position run
+Inv-loop bytes at q threshold before last position₀ run₀ position run = Sampling bytes at q threshold before position run
 
 abbrev μ-loop : tie.MeasureT-loop
-μ-loop bytes at q threshold last position₀ run₀ position run = length bytes - position
+μ-loop bytes at q threshold before last position₀ run₀ position run = length bytes - position
 
 returns : tie.Need-returns Inv-loop μ-loop
 returns c =
     let args = c .before .before .args in
-    sampling-end (sampling-none (args .bytes .now) (args .at) (args .q) (args .threshold)) (omega arith)
+    sampling-end (sampling-none (args .bytes .now) (args .at) (args .q) (args .threshold) (args .before) (c .before .before .pre .1)) (omega arith)
 
 loop-holds : tie.Need-loop-holds Inv-loop μ-loop
-loop-holds c = sampling-none _ _ _ _
+loop-holds c = sampling-none _ _ _ _ _ (omega arith)
 
 returns-2 : tie.Need-returns-2 Inv-loop μ-loop
 returns-2 c =
-    sampling-take (c .before .before .before .loop .inv) (omega arith) (c .before .candidate-at .ensures) (c .if2 .taken)
+    let turn = c .before .before .before .before .loop in
+    sampling-take (turn .inv) (omega arith) (c .before .before .candidate-at .ensures) (c .before .if2 .taken) (c .reduce .ensures)
 
 add-run : tie.Need-add-run Inv-loop μ-loop
 add-run c = omega (arith, c .before .before .before .loop .inv .less)
@@ -52,6 +53,7 @@ draw-one-spec =
     (λ c κs. search needs)
     (λ c. search needs)
     (λ c. search needs)
+    (λ c κs. search needs)
     returns-2
     add-run
     returns-3

@@ -7,7 +7,7 @@ use lib.ListN.{length}
 use Rattle.calls.specs.Outcome.{accepted}
 use Rattle.sets.specs.declared.Parameters.{Parameters}
 use Rattle.sets.specs.Table.{setOf}
-use Rattle.samplers.specs.Blocks.{onward}
+use Rattle.samplers.specs.Blocks.{onward, refusedBy}
 use Rattle.samplers.specs.Seeded.{publicDrawn}
 use Rattle.scheme.proofs.Taken.{allTaken-false}
 use Rattle.keying.proofs.Drawn.{true-false, advanced, stopped, refuse-taken, refuse-not-taken}
@@ -38,14 +38,18 @@ next-vector-requires c κs =
 
 returns : tie.Need-returns Inv-loop μ-loop
 returns c =
-    let start = c .before .before .before .before .before .before .before .before .before .before .before .before .before .before .before .before .before in
+    let stored = c .before .before .before .before .before .before .before in
+    let begun = stored .before .before .before .before in
+    let start = begun .before .before .before .before .before .before .before in
     let set = start .args .set in
     let seed = start .args .seed .now in
-    let turn = c .before .before .before .before .before .before .before .before .before .before .loop in
-    let below : turn .i < setOf set .t = omega (arith, c .before .before .before .before .before .before .before .before .before .loop-test .taken, ap (λ (p : Parameters). p .t) (c .before .before .before .before .before .before .before .before .before .before .before .parameters-of .ensures)) in
-    let none = stopped _ _ (publicDrawn (setOf set) seed (turn .i)) (sym (ap onward (c .enum-told .given .1)) ∙ c .before .before .before .before .before .before .next-vector .ensures .0) in
+    let turn = begun .loop in
+    let size = ap (λ (p : Parameters). p .t) (begun .before .parameters-of .ensures) in
+    let below : turn .i < setOf set .t = omega (arith, stored .before .before .before .loop-test .taken, size) in
+    let told = ap onward (c .before .enum-told .given .1) in
+    let none = stopped _ _ (publicDrawn (setOf set) seed (turn .i)) (sym told ∙ stored .next-vector .ensures .0) in
     let one = allTaken-false (setOf set .t) (publicDrawn (setOf set) seed) (turn .i) below (none .not-taken) in
-    (sym (refuse-not-taken accepted one), λ t. absurd (true-false t one))
+    (refuse-not-taken accepted one (c .refusal-of .ensures ∙ ap refusedBy told ∙ none .five), λ t. absurd (true-false t one))
 
 loop-again : tie.Need-loop-again Inv-loop μ-loop
 loop-again c =
@@ -56,7 +60,7 @@ loop-again c =
     let turn = c .before .before .before .before .before .before .before .before .before .before .before .loop in
     let vector = c .before .before .before .before .before .before .before .next-vector in
     let below : turn .i < setOf set .t = omega (arith, c .before .before .before .before .before .before .before .before .before .before .loop-test .taken, ap (λ (p : Parameters). p .t) (c .before .before .before .before .before .before .before .before .before .before .before .before .parameters-of .ensures)) in
-    let drawn = advanced _ _ (publicDrawn (setOf set) seed (turn .i)) (sym (ap onward (c .before .next .given .1)) ∙ vector .ensures .0) in (
+    let drawn = advanced _ _ (publicDrawn (setOf set) seed (turn .i)) (sym (ap onward (c .before .drawn .given .1)) ∙ vector .ensures .0) in (
       vector .kept .1 .1 .1 .1 .1 .1 .0 ∙ turn .inv .0,
       vector .kept .1 .1 .1 .1 .1 .1 .1 .0 ∙ turn .inv .1,
       vectors-more set (pre .0) (pre .1) seed (start .args .work .now) (pre .6) (turn .i) (turn .counter) (turn .work) (turn .inv .2) _ _ below (drawn .all-taken) (drawn .next-is) (vector .ensures .1 (drawn .all-taken)),
@@ -81,6 +85,7 @@ all-vectors-spec =
     next-vector-requires
     (λ c. search needs)
     (λ c. search needs)
+    (λ c κs. search needs)
     (λ c. search needs)
     (λ c. search needs)
     returns

@@ -1,41 +1,59 @@
--- `samplers::block::continue_draw` meets its contract: each turn takes one candidate or sets it aside.
+-- `samplers::block::continue_draw` meets its contract: each turn draws one result.
 -- Assumes nothing.
+use mathlib.Core.Path.{_≡_, sym, ap, _∙_}
 use Prim.Native.Nat.{_-_}
 use native.Mathlib.Omega.{arith}
 use lib.ListN.{length}
-use Rattle.samplers.proofs.Continuing.{Continuing, continuing-none, continuing-end, continuing-take, continuing-all, continuing-aside, continuing-last}
+use Rattle.draws.specs.Uniform.{sample, refusal, refusalOf, sampleAt}
+use Rattle.samplers.proofs.Continuing.{Continuing, continuing-none, continuing-more, continuing-stop, continuing-run, continuing-all}
 use borrow.Author.Needs.{needs}
 use Rattle.samplers.proofs.block.continue_draw.Statement.{statement}
 use Rattle.samplers.proofs.block.continue_draw.Tie as tie
 
 abbrev Inv-loop : tie.InvT-loop
-Inv-loop bytes q threshold from before out₀ wanted last position₀ done₀ run₀ out position done run = Continuing bytes q threshold from before out₀ position done run out
+Inv-loop bytes q threshold from before out₀ position₀ done₀ run₀ out position done run = Continuing bytes q threshold from before out₀ position done run out
 
 abbrev μ-loop : tie.MeasureT-loop
-μ-loop bytes q threshold from before out₀ wanted last position₀ done₀ run₀ out position done run = length bytes - position
+μ-loop bytes q threshold from before out₀ position₀ done₀ run₀ out position done run = length out₀ - done
 
 loop-holds : tie.Need-loop-holds Inv-loop μ-loop
 loop-holds c = continuing-none _ _ _ _ _ _ (omega arith) (omega arith)
 
+draw-one-requires : tie.Need-draw-one-requires Inv-loop μ-loop
+draw-one-requires c κs = (c .before .before .before .before .pre .0, c .before .loop .inv .less)
+
+-- where a result was drawn, seen from the point where its refusal is known
+abbrev turn : tie.After-refusal-of Inv-loop μ-loop → tie.At-loop Inv-loop μ-loop
+turn c = c .before .before .before .before .before
+
+-- the refusal of the result
+refused : (c : tie.After-refusal-of Inv-loop μ-loop) →
+    let args = turn c .before .before .before .args in
+    sampleAt (args .q) (args .threshold) (turn c .loop .run) (args .bytes .now) (turn c .loop .position) ≡ refusal (c .refusal-of .result)
+refused c =
+    let told = ap sample (c .before .enum-told .given .1) in
+    sym (c .before .before .before .draw-one .ensures) ∙ told ∙ ap refusal (sym (c .refusal-of .ensures ∙ ap refusalOf told))
+
+sub-stopped-at : tie.Need-sub-stopped-at Inv-loop μ-loop
+sub-stopped-at c = turn c .loop .inv .inside
+
+stopped-at-requires : tie.Need-stopped-at-requires Inv-loop μ-loop
+stopped-at-requires c κs = continuing-run (turn c .loop .inv) (omega (arith, turn c .loop .inv .kept)) _ (refused c)
+
 returns : tie.Need-returns Inv-loop μ-loop
 returns c =
-    continuing-all (c .before .before .before .before .loop .inv) (omega arith) (c .before .before .candidate-at .ensures) (c .before .if1 .taken) (omega arith)
+    let inv = turn (c .before) .loop .inv in
+    let stop = continuing-stop inv (omega (arith, inv .kept)) _ (refused (c .before)) in
+    (c .stopped-at .ensures ∙ stop .0, stop .1)
 
 loop-again : tie.Need-loop-again Inv-loop μ-loop
 loop-again c =
-    continuing-take (c .before .before .before .before .loop .inv) (omega arith) (c .before .before .candidate-at .ensures) (c .before .if1 .taken) (λ e. c .if2 .left (omega arith))
+    let inv = c .before .before .before .before .before .loop .inv in
+    let drawn = c .before .drawn .given in
+    continuing-more inv (omega (arith, inv .kept)) (drawn .0 .0) (drawn .0 .1 .0) (sym (c .before .before .before .draw-one .ensures) ∙ ap sample (drawn .1))
 
 returns-2 : tie.Need-returns-2 Inv-loop μ-loop
-returns-2 c =
-    continuing-last (c .before .before .before .before .loop .inv) (omega arith) (c .before .before .candidate-at .ensures) (c .before .if1 .left) (c .if3 .taken)
-
-loop-again-2 : tie.Need-loop-again-2 Inv-loop μ-loop
-loop-again-2 c =
-    continuing-aside (c .before .before .before .before .loop .inv) (omega arith) (c .before .before .candidate-at .ensures) (c .before .if1 .left) (c .if3 .left)
-
-returns-3 : tie.Need-returns-3 Inv-loop μ-loop
-returns-3 c =
-    continuing-end (c .before .loop .inv) (omega arith)
+returns-2 c = continuing-all (c .before .loop .inv) (omega arith)
 
 pub continue-draw-spec : {M : Type 1} → statement M
 continue-draw-spec =
@@ -43,22 +61,19 @@ continue-draw-spec =
     (tie.spec
     Inv-loop
     μ-loop
-    (λ c. search needs)
     loop-holds
+    draw-one-requires
+    (λ c. search needs)
+    (λ c. search needs)
     (λ c κs. search needs)
-    (λ c. search needs)
-    (λ c. search needs)
-    (λ c. search needs)
-    (λ c. search needs)
-    (λ c. search needs)
+    sub-stopped-at
+    stopped-at-requires
     (λ c. search needs)
     returns
     (λ c. search needs)
+    (λ c. search needs)
+    (λ c. search needs)
+    (λ c. search needs)
     loop-again
     (λ c. search needs)
-    (λ c. search needs)
-    returns-2
-    (λ c. search needs)
-    loop-again-2
-    (λ c. search needs)
-    returns-3)
+    returns-2)

@@ -1,13 +1,12 @@
 -- The products are added up from zero; where no draw is refused, the total is packed.
 -- Assumes nothing.
 use mathlib.Core.Path.{sym, ap, _∙_}
-use mathlib.Core.Bool.{not}
 use Prim.Native.Nat.{ℕ}
 use native.Mathlib.Omega.{arith}
-use borrow.Author.Tests.{not-true, not-false}
+use borrow.Author.Tests.{not-false}
 use lib.ListN.{replicate}
-use Rattle.calls.specs.Outcome.{accepted}
-use Rattle.calls.proofs.Outcome.{refuse-true, refuse-false, refused-call, accepted-call}
+use Rattle.calls.specs.Outcome.{outcome, accepted}
+use Rattle.calls.proofs.Outcome.{refuse-accepted, refused-call, accepted-call}
 use Rattle.sets.proofs.Rules.{rules-of, byteRules-of}
 use Rattle.sealing.proofs.Adding.{total-digits, first-packed}
 use borrow.Author.Needs.{needs}
@@ -20,28 +19,40 @@ sum-products-requires c κs =
     (pre .0, pre .1, pre .2, pre .3, c .before .before .before .before .before .before .before .before .before .before .load-powers .ensures, c .before .before .before .before .before .before .clear .ensures ∙ ap (λ (n : ℕ). replicate n 0) (pre .6), pre .7, pre .8)
 
 returns : tie.Need-returns
-returns c = refused-call _ _ (refuse-true 5 0 accepted (ap not (sym (c .before .before .before .before .before .before .before .sum-products .ensures .0) ∙ not-true _ (c .if1 .taken))))
+returns c =
+    let answer = c .before .before .before .before .before .before .before .before .sum-products .ensures .0 in
+    (answer, refused-call _ _ (sym answer ∙ ap outcome (c .enum-told2 .given .1)) .1)
 
 pack-into-requires : tie.Need-pack-into-requires
 pack-into-requires c κs =
-    let start = c .before .before .before .before .before .before .before .before .before .before .before .before .before .before .before .before .before .before .before .before .before .before .before .before .before .before .before .before .before .before in
+    let added = c .before .before .before .before .before .before .before .before .before .before in
+    let known = added .before .before .before .before .before .before .before .before .before .before .before .before .before in
+    let start = known .before .before .before .before .before .before .before .before in
     let set = start .args .set in
     let low = start .pre .1 in
-    let e = c .before .before .before .before .before .before .before .before .before .before .before .before .before .before .before .before .before .before .before .before .before .before .parameters-of .ensures in
+    let e = known .parameters-of .ensures in
+    let summed = added .sum-products in
+    let done = ap outcome (c .before .before .enum-told .given .1) in
     let kept = rules-of set low _ e in
     let bytes = byteRules-of set low _ e (start .pre .0) in (
       record { least = omega (arith, bytes .kept-byte); most = omega (arith, kept .width-most) },
-      total-digits set low (start .args .seed .now) (start .args .multipliers .now) _ e (c .before .before .before .before .before .before .before .before .before .sum-products .last .1 .1 .1 .1 .0) (c .before .before .before .before .before .before .before .before .before .sum-products .ensures .1 (not-false _ (c .before .before .if1 .left))),
+      total-digits set low (start .args .seed .now) (start .args .multipliers .now) _ e (summed .last .1 .1 .1 .1 .0) (summed .ensures .1 done),
     )
 
 returns-2 : tie.Need-returns-2
 returns-2 c =
-    let start = c .before .before .before .before .before .before .before .before .before .before .before .before .before .before .before .before .before .before .before .before .before .before .before .before .before .before .before .before .before .before .before .before .before in
+    let added = c .before .before .before .before .before .before .before .before .before .before .before .before .before in
+    let known = added .before .before .before .before .before .before .before .before .before .before .before .before .before in
+    let start = known .before .before .before .before .before .before .before .before in
     let pre = start .pre in
-    let all = not-false _ (c .before .before .before .before .before .if1 .left) in
-    let taken = sym (c .before .before .before .before .before .before .before .before .before .before .before .before .sum-products .ensures .0) ∙ all in
-    accepted-call _ _ (refuse-false 5 0 accepted (ap not taken))
-    (c .before .before .pack-into .ensures ∙ first-packed (start .args .set) (pre .1) (start .args .seed .now) (start .args .multipliers .now) _ (c .before .before .before .before .before .before .before .before .before .before .before .before .before .before .before .before .before .before .before .before .before .before .before .before .before .parameters-of .ensures) _ _ (pre .3) taken (pre .4) (c .before .before .before .before .before .before .before .before .before .before .before .before .sum-products .ensures .1 all))
+    let e = known .parameters-of .ensures in
+    let summed = added .sum-products .ensures in
+    let done = ap outcome (c .before .before .before .before .before .enum-told .given .1) in
+    let decided = sym (summed .0) ∙ done in
+    let taken = not-false _ (refuse-accepted _ 5 0 accepted decided .0) in
+    accepted-call _ _ decided
+    (c .before .before .pack-into .ensures
+    ∙ first-packed (start .args .set) (pre .1) (start .args .seed .now) (start .args .multipliers .now) _ e _ _ (pre .3) taken (pre .4) (summed .1 done))
 
 pub first-through-spec : {M : Type 1} → statement M
 first-through-spec =
@@ -51,6 +62,8 @@ first-through-spec =
     (λ c κs. search needs)
     (λ c κs. search needs)
     sum-products-requires
+    (λ c. search needs)
+    (λ c. search needs)
     (λ c. search needs)
     (λ c. search needs)
     (λ c. search needs)

@@ -1,12 +1,14 @@
 -- After i turns the products of the first i polynomials are added up.
 -- Assumes nothing.
-use mathlib.Core.Path.{_≡_, sym, ap, _∙_}
+use mathlib.Core.Path.{refl, sym, ap, _∙_}
 use Prim.Native.Nat.{ℕ, _-_, _<_}
 use native.Mathlib.Omega.{arith}
 use lib.ListN.{length}
+use Rattle.calls.specs.Outcome.{refused}
+use Rattle.calls.proofs.Outcome.{accepted-refused}
 use Rattle.sets.specs.declared.Parameters.{Parameters}
 use Rattle.sets.specs.Table.{setOf}
-use Rattle.samplers.specs.Blocks.{onward}
+use Rattle.samplers.specs.Blocks.{onward, refusedBy}
 use Rattle.sets.proofs.Rules.{rules-of}
 use Rattle.sealing.proofs.Adding.{Adding, adding-none, adding-more, adding-addends, adding-all, sampled, sampled-refused, counter-small}
 use borrow.Author.Needs.{needs}
@@ -38,9 +40,16 @@ send-drawn-requires c κs =
 
 returns : tie.Need-returns Inv-loop μ-loop
 returns c =
-    let start = c .before .before .before .before .before .before .before .before .before .before .before .before .before .before .before .before .before .before .before .before in
-    let refused = sampled-refused (start .args .set) (start .pre .1) (start .args .seed .now) (start .args .multipliers .now) (c .before .before .before .before .before .before .before .before .before .before .before .before .loop .counter) (c .before .before .before .before .before .before .before .before .before .before .before .before .loop .i) (c .before .before .before .before .before .before .before .before .before .before .before .before .loop .inv .reached) _ (turn-below (c .before .before .before .before .before .before .before .before .before .before)) (sym (c .before .before .before .before .send-drawn .ensures .0) ∙ ap onward (c .enum-told .given .1)) in
-    (sym refused, λ e. let z : _≡_ {A = ℕ} 0 1 = cc in absurd (omega arith))
+    let sampled-at = c .before .before .before .before .before in
+    let test = sampled-at .before .before .before .before .before .before in
+    let begun = test .before .before in
+    let start = begun .before .before .before .before .before .before .before .before in
+    let turn = begun .loop in
+    let told = ap onward (c .before .enum-told .given .1) in
+    let drawn = sampled-refused (start .args .set) (start .pre .1) (start .args .seed .now) (start .args .multipliers .now) in
+    let none = drawn (turn .counter) (turn .i) (turn .inv .reached) _ (turn-below test) (sym (sampled-at .send-drawn .ensures .0) ∙ told) in
+    let answer = ap (λ (k : ℕ). refused k 0) (c .refusal-of .ensures ∙ ap refusedBy told) in
+    (answer ∙ none, λ e. absurd (accepted-refused e refl))
 
 accumulate-requires : tie.Need-accumulate-requires Inv-loop μ-loop
 accumulate-requires c κs =
@@ -51,7 +60,8 @@ accumulate-requires c κs =
     let multipliers = start .args .multipliers .now in
     let turn = c .before .before .before .before .before .before .before .before .before .before .before .before .before .before .before .before .loop in
     let draw = c .before .before .before .before .before .before .before .before .send-drawn .ensures in
-    let one = sampled set low seed multipliers (turn .counter) (turn .i) (turn .inv .reached) _ _ (sym (draw .0) ∙ ap onward (c .before .before .before .before .next .given .1)) (draw .1) in
+    let one = sampled set low seed multipliers (turn .counter) (turn .i) (turn .inv .reached) _ _
+    (sym (draw .0) ∙ ap onward (c .before .before .before .before .drawn .given .1)) (draw .1) in
     adding-addends set low seed multipliers _ (c .before .before .before .before .before .before .before .before .before .before .before .before .before .before .before .before .before .parameters-of .ensures) (turn .inv) (c .before .before .before .before .before .before .before .before .before .before .before .before .send-multipliers .ensures) (one .y-is)
 
 add-i : tie.Need-add-i Inv-loop μ-loop
@@ -65,7 +75,9 @@ loop-again c =
     let start = c .before .before .before .before .before .before .before .before .before .before .before .before .before .before .before .before .before .before .before .before .before .before .before .before .before .before .before in
     let turn = c .before .before .before .before .before .before .before .before .before .before .before .before .before .before .before .before .before .before .before .loop in
     let draw = c .before .before .before .before .before .before .before .before .before .before .before .send-drawn .ensures in
-    let one = sampled (start .args .set) (start .pre .1) (start .args .seed .now) (start .args .multipliers .now) (turn .counter) (turn .i) (turn .inv .reached) _ _ (sym (draw .0) ∙ ap onward (c .before .before .before .before .before .before .before .next .given .1)) (draw .1) in
+    let one = sampled (start .args .set) (start .pre .1) (start .args .seed .now) (start .args .multipliers .now)
+    (turn .counter) (turn .i) (turn .inv .reached) _ _
+    (sym (draw .0) ∙ ap onward (c .before .before .before .before .before .before .before .drawn .given .1)) (draw .1) in
     adding-more (start .args .set) (start .pre .1) (start .args .seed .now) (start .args .multipliers .now) _ _ _ _ (turn .inv) (turn-below (c .before .before .before .before .before .before .before .before .before .before .before .before .before .before .before .before .before)) one (c .before .before .before .before .before .before .before .before .before .before .before .before .before .before .before .send-multipliers .ensures) (rw (c .before .before .before .before .before .before .before .before .before .before .before .before .before .before .before .before .before .before .before .before .parameters-of .ensures) at (c .before .before .accumulate .ensures))
 
 returns-2 : tie.Need-returns-2 Inv-loop μ-loop
@@ -85,6 +97,7 @@ sum-products-spec =
     send-drawn-requires
     (λ c. search needs)
     (λ c. search needs)
+    (λ c κs. search needs)
     (λ c. search needs)
     (λ c. search needs)
     (λ c. search needs)
