@@ -71,8 +71,9 @@ fn errors(random: &mut Random) -> u8 {
 }
 
 fn multipliers(random: &mut Random) -> u8 {
-    let (number, wanted, length) = (random.set(), random.wanted(), random.below(22000));
-    let first = random.below(9000);
+    let (number, length) = (random.set(), random.below(22000));
+    let wanted = if random.one_in(8) { 0 } else { random.wanted() };
+    let first = if random.one_in(8) { usize::MAX - random.below(2) } else { random.below(9000) };
     let bytes = random.bytes(length);
     let mut out = Lent::new(wanted, 7);
     let given = titanium::draw_multipliers(number, &bytes, first, out.slice());
