@@ -90,6 +90,22 @@ uint64_t titanium_encrypt(size_t set, const uint8_t *public_key, size_t public_k
 uint64_t titanium_decrypt(size_t set, const uint8_t *secret_key, size_t secret_key_length, const uint8_t *ciphertext,
                           size_t ciphertext_length, uint8_t *message, size_t message_length, uint32_t *work, size_t work_length);
 
+/* Key, sealing and reading in one call, the self-test of a delivery. Every length is looked at before the first of the three calls, so that a
+   refused one leaves every output as it was; the work slice is zero after 5. Refused with 1, 8, 2, 5; what a step gives is never refused by the
+   next. The answer is 0 also where bits were misread: compare the message read with the message, or the two shared keys. */
+
+/* Sets 1 to 6: the keys of a seed, the ciphertext of a message under a sealing seed, and the message read from it. */
+uint64_t titanium_seal_and_read(size_t set, const uint8_t *seed, size_t seed_length, const uint8_t *message, size_t message_length,
+                                const uint8_t *sealing_seed, size_t sealing_seed_length, uint8_t *public_key, size_t public_key_length,
+                                uint8_t *secret_key, size_t secret_key_length, uint8_t *ciphertext, size_t ciphertext_length,
+                                uint8_t *message_read, size_t message_read_length, uint32_t *work, size_t work_length);
+
+/* Sets 7 to 12: the keys of a seed, the ciphertext of a message with the sender's shared key, and the receiver's shared key. */
+uint64_t titanium_share_a_key(size_t set, const uint8_t *seed, size_t seed_length, const uint8_t *message, size_t message_length,
+                              uint8_t *public_key, size_t public_key_length, uint8_t *secret_key, size_t secret_key_length,
+                              uint8_t *ciphertext, size_t ciphertext_length, uint8_t *sent_key, size_t sent_key_length,
+                              uint8_t *received_key, size_t received_key_length, uint32_t *work, size_t work_length);
+
 /* SHAKE256 of FIPS 202, KMAC256 and KMACXOF256 of SP 800-185. Refused with 6 where a slice is longer than 65,536 bytes. */
 uint64_t titanium_shake256(const uint8_t *input, size_t input_length, uint8_t *out, size_t out_length);
 uint64_t titanium_kmac256(const uint8_t *key, size_t key_length, const uint8_t *input, size_t input_length,
@@ -98,8 +114,8 @@ uint64_t titanium_kmacxof256(const uint8_t *key, size_t key_length, const uint8_
                              const uint8_t *customization, size_t customization_length, uint8_t *out, size_t out_length);
 
 /* Draws over lent bytes, sets 1 to 12, one result for each number of `out`. Refused with 1, 2 (more than 4,096 results, or a multiplier past a
-   sealing's last position), 4, 5. The place of 4 and 5 is the result's; that of 1 and 2 is 0, since no result was begun. An empty `out` is accepted,
-   whatever the first position. */
+   sealing's last position), 4, 5. The place of 4 and 5 is the result's; that of 1 and 2 is 0, since no result was begun. For sets 1 to 12
+   an empty `out` is accepted, whatever the first position. */
 uint64_t titanium_draw_residues(size_t set, const uint8_t *bytes, size_t bytes_length, uint32_t *out, size_t out_length);
 uint64_t titanium_draw_errors(size_t set, const uint8_t *bytes, size_t bytes_length, int32_t *out, size_t out_length);
 uint64_t titanium_draw_multipliers(size_t set, const uint8_t *bytes, size_t bytes_length, size_t first, int32_t *out,

@@ -109,7 +109,81 @@ fn open(random: &mut Random, number: usize, own: RangeInclusive<usize>, secret: 
     same_answer(given, &made)
 }
 
-/// Key, sealing and reading of one scheme, each with what the call before made, seldom damaged.
+/// Key, encrypt and decrypt in one call.
+fn seal_and_read(random: &mut Random, number: usize) -> u8 {
+    let right = lengths(number);
+    let [seed, message, sealing] = [32; 3].map(|right| {
+        let length = random.length(right);
+        random.bytes(length)
+    });
+    let [pk, sk, ct, out, w] = [right[0], right[1], right[2], 32, right[3]].map(|right| random.length(right));
+    let (mut public, mut secret, mut sealed) = (Lent::new(pk, 7), Lent::new(sk, 7), Lent::new(ct, 7));
+    let (mut read, mut work) = (Lent::new(out, 7), Lent::new(w, 7));
+    let given = titanium::seal_and_read(
+        number,
+        &seed,
+        &message,
+        &sealing,
+        public.slice(),
+        secret.slice(),
+        sealed.slice(),
+        read.slice(),
+        work.slice(),
+    );
+    let inputs = [(seed.len(), 32), (message.len(), 32), (sealing.len(), 32)];
+    let outputs = [(pk, right[0]), (sk, right[1]), (ct, right[2]), (out, 32), (w, right[3])];
+    let passed = checked(1..=6, number, &[&inputs[..], &outputs[..]].concat());
+    let made = passed.as_ref().map_err(|&r| r).and_then(|s| {
+        let (public, secret) = other::key(s, &seed)?;
+        let sealed = other::encrypt(s, &public, &message, &sealing)?;
+        let read = other::decrypt(s, &secret, &sealed)?;
+        Ok([public, secret, sealed, read])
+    });
+    for (i, lent) in [&public, &secret, &sealed, &read].into_iter().enumerate() {
+        lent.expect(made.as_ref().map(|all| all[i].as_slice()));
+    }
+    expect_work(&work, w, &passed);
+    same_answer(given, &made)
+}
+
+/// Key, encapsulate and decapsulate in one call.
+fn share_a_key(random: &mut Random, number: usize) -> u8 {
+    let right = lengths(number);
+    let [seed, message] = [32; 2].map(|right| {
+        let length = random.length(right);
+        random.bytes(length)
+    });
+    let [pk, sk, ct, one, two, w] = [right[0], right[1], right[2], 32, 32, right[3]].map(|right| random.length(right));
+    let (mut public, mut secret, mut sealed) = (Lent::new(pk, 7), Lent::new(sk, 7), Lent::new(ct, 7));
+    let (mut sent, mut received, mut work) = (Lent::new(one, 7), Lent::new(two, 7), Lent::new(w, 7));
+    let given = titanium::share_a_key(
+        number,
+        &seed,
+        &message,
+        public.slice(),
+        secret.slice(),
+        sealed.slice(),
+        sent.slice(),
+        received.slice(),
+        work.slice(),
+    );
+    let inputs = [(seed.len(), 32), (message.len(), 32)];
+    let outputs = [(pk, right[0]), (sk, right[1]), (ct, right[2]), (one, 32), (two, 32), (w, right[3])];
+    let passed = checked(7..=12, number, &[&inputs[..], &outputs[..]].concat());
+    let made = passed.as_ref().map_err(|&r| r).and_then(|s| {
+        let (public, secret) = other::exchange_key(s, &seed)?;
+        let (sealed, sent) = other::encapsulate(s, &public, &message)?;
+        let received = other::decapsulate(s, &secret, &sealed)?;
+        Ok([public, secret, sealed, sent, received])
+    });
+    for (i, lent) in [&public, &secret, &sealed, &sent, &received].into_iter().enumerate() {
+        lent.expect(made.as_ref().map(|all| all[i].as_slice()));
+    }
+    expect_work(&work, w, &passed);
+    same_answer(given, &made)
+}
+
+/// Key, sealing and reading of one scheme, each with what the call before made, seldom damaged; then all three in one call.
 pub fn round(random: &mut Random) -> Vec<u8> {
     let number = random.set();
     let own = if random.one_in(8) == (number > 6) { 1..=6 } else { 7..=12 };
@@ -119,5 +193,6 @@ pub fn round(random: &mut Random) -> Vec<u8> {
     let (second, mut sealed) = if own.contains(&12) { encapsulate(random, number, &public) } else { encrypt(random, number, &public) };
     damage(random, &mut sealed, 0, q);
     damage(random, &mut secret, 64, q);
-    vec![first, second, open(random, number, own, &secret, &sealed)]
+    let whole = if own.contains(&12) { share_a_key(random, number) } else { seal_and_read(random, number) };
+    vec![first, second, open(random, number, own, &secret, &sealed), whole]
 }

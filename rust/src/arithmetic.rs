@@ -172,3 +172,50 @@ pub fn bit(s: &Set, w: u32) -> u32 {
     let one = if s.number == 0 { (2 * w + h) / (2 * h) % 2 == 1 } else { h <= 2 * w && 2 * w <= 3 * h };
     one as u32
 }
+
+#[cfg(test)]
+mod tests {
+    use super::*;
+    use crate::parameters::set;
+
+    /// The transform by its written-out sum: place row * r + c is the sum of x_j times the root to the power j * (r + rows * c).
+    fn written_out(q: u64, w: u64, size: usize, row: usize, x: &[u32]) -> Vec<u32> {
+        let (powers, rows) = (crate::parameters::powers(q, w, size), size / row);
+        let place = |i: usize| i / row + rows * (i % row);
+        let sum = |i: usize| x.iter().enumerate().fold(0, |sum, (j, &x)| (sum + x as u64 * powers[j * place(i) % size]) % q);
+        (0..size).map(|i| sum(i) as u32).collect()
+    }
+
+    /// Every size of a set, whole vectors and vectors that are padded, with the root and with its inverse.
+    fn same_as_written_out(number: usize) {
+        let s = set(number).unwrap();
+        let row = if number == 0 { 1 } else { 256 };
+        for (i, (&size, &root)) in s.sizes.iter().zip(&s.roots).enumerate() {
+            let inverse = crate::parameters::powers(s.q, root, size)[size - 1];
+            for count in [size, size / 2 + 1] {
+                let x: Vec<u32> = (0..count as u64).map(|j| ((j * j * 7919 + 31 * j + 5) % s.q) as u32).collect();
+                assert_eq!(Transform::new(&s, i, false).forward(&x), written_out(s.q, root, size, row, &x));
+                assert_eq!(Transform::new(&s, i, true).forward(&x), written_out(s.q, inverse, size, row, &x));
+            }
+        }
+    }
+
+    #[test]
+    fn transforms_are_written_out_sums() {
+        for number in [0, 1, 12] {
+            same_as_written_out(number);
+        }
+    }
+
+    /// What one root sends, the transform with the other, divided by the size, recovers.
+    #[test]
+    fn transforms_are_undone() {
+        for s in (0..13).map(|number| set(number).unwrap()) {
+            for (i, &size) in s.sizes.iter().enumerate() {
+                let x: Vec<u32> = (0..size as u64).map(|j| (j * j % s.q) as u32).collect();
+                let (forward, inverse) = (Transform::new(&s, i, false), Transform::new(&s, i, true));
+                assert_eq!(inverse.scaled(&forward.forward(&x)), x);
+            }
+        }
+    }
+}

@@ -7,7 +7,7 @@ use crate::parameters::Set;
 use crate::sponge::shake256;
 
 /// The public polynomials of a seed.
-fn public_polynomials(s: &Set, seed: &[u8]) -> Result<Vec<Vec<u32>>, Refusal> {
+pub fn public_polynomials(s: &Set, seed: &[u8]) -> Result<Vec<Vec<u32>>, Refusal> {
     let mut source = Source::new(seed);
     (0..s.t).map(|_| residues_from(s, &mut source, s.n, s.public_block)).collect()
 }
@@ -17,6 +17,14 @@ pub fn secret(s: &Set, seed: &[u8]) -> Result<(Vec<u32>, Source), Refusal> {
     let mut source = Source::new(seed);
     let stored = residues_from(s, &mut source, s.sizes[2], s.secret_block)?;
     Ok((stored, source))
+}
+
+/// The secret itself: a stored vector of the third size was sent with the inverse of the root.
+pub fn secret_numbers(s: &Set, seed: &[u8]) -> Result<Vec<u32>, Refusal> {
+    let (stored, _) = secret(s, seed)?;
+    let mut numbers = Transform::new(s, 2, false).scaled(&stored);
+    numbers.truncate(s.n + s.d + s.k - 1);
+    Ok(numbers)
 }
 
 /// The first numbers of the correlation of x with a stored vector, over the transform of size number i.
@@ -81,7 +89,7 @@ pub fn encrypt(s: &Set, public_key: &[u8], message: &[u8], seed: &[u8]) -> Resul
 }
 
 /// The numbers that are rounded, from unpacked c1 and c2.
-fn read_numbers(s: &Set, secret_seed: &[u8], c1: &[u32], c2: &[u32]) -> Result<Vec<u32>, Refusal> {
+pub fn read_numbers(s: &Set, secret_seed: &[u8], c1: &[u32], c2: &[u32]) -> Result<Vec<u32>, Refusal> {
     let (stored, _) = unplaced(secret(s, secret_seed))?;
     let mut opened = Transform::new(s, 1, true).scaled(c1);
     opened.truncate(s.n + s.k);
@@ -90,7 +98,7 @@ fn read_numbers(s: &Set, secret_seed: &[u8], c1: &[u32], c2: &[u32]) -> Result<V
 }
 
 /// The numbers of a ciphertext: c1 as it is stored, c2 as recovered.
-fn ciphertext_numbers(s: &Set, ciphertext: &[u8]) -> (Vec<u32>, Vec<u32>) {
+pub fn ciphertext_numbers(s: &Set, ciphertext: &[u8]) -> (Vec<u32>, Vec<u32>) {
     let end = (s.sizes[1] * s.width()).div_ceil(8);
     let c1 = unpack(&ciphertext[..end], s.width(), s.sizes[1]);
     let kept = unpack(&ciphertext[end..], s.width() - s.dropped_bits as usize, s.d);

@@ -21,6 +21,17 @@ fn products(s: &Set, multipliers: &[i32], errors: &[i32], place: usize) -> i64 {
     polynomials.map(|(r, e)| r.iter().zip(&e[place..]).map(|(&x, &y)| x as i64 * y as i64).sum::<i64>()).sum()
 }
 
+/// The noise of every place of a sealing, from the seeds.
+pub fn noise(s: &Set, key_seed: &[u8], sealing_seed: &[u8], message: &[u8]) -> Result<Vec<i64>, Refusal> {
+    let (public_key, secret_key) = key(s, key_seed)?;
+    let mut source: Source = secret(s, &secret_key)?.1;
+    let errors = key_errors(s, &mut source);
+    let multipliers = sealing_multipliers(s, sealing_seed);
+    let (_, c2) = sealed_numbers(s, &public_key, message, sealing_seed)?;
+    let dropped = c2.iter().map(|&x| x as i64 % (1 << s.dropped_bits));
+    Ok(dropped.enumerate().map(|(place, dropped)| products(s, &multipliers, &errors, place) - dropped).collect())
+}
+
 /// The rows of an encryption set.
 fn byte_rows(s: &Set, input: &[u8]) -> Result<Vec<Row>, Refusal> {
     if input.len() != 97 {
@@ -32,16 +43,8 @@ fn byte_rows(s: &Set, input: &[u8]) -> Result<Vec<Row>, Refusal> {
     let ciphertext = encrypt(s, &public_key, message, sealing_seed)?;
     let read = message_bits(&decrypt(s, &secret_key, &ciphertext)?);
     let sent = message_bits(message);
-    let mut source: Source = secret(s, &secret_key)?.1;
-    let errors = key_errors(s, &mut source);
-    let multipliers = sealing_multipliers(s, sealing_seed);
-    let (_, c2) = sealed_numbers(s, &public_key, message, sealing_seed)?;
-    Ok((0..s.d)
-        .map(|place| {
-            let dropped = c2[place] as i64 % (1 << s.dropped_bits);
-            Row { place, noise: products(s, &multipliers, &errors, place) - dropped, sent: sent[place], read: read[place] }
-        })
-        .collect())
+    let noise = noise(s, key_seed, sealing_seed, message)?;
+    Ok((0..s.d).map(|place| Row { place, noise: noise[place], sent: sent[place], read: read[place] }).collect())
 }
 
 /// The rows of Bench, whose numbers stand in the input itself.

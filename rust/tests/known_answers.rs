@@ -1,7 +1,12 @@
 //! The comparison against the known answers of an independent model, vectors/titanium.txt.
 
+use comparison::arithmetic::Transform;
+use comparison::draws::{key_errors, sealing_multipliers};
 use comparison::parameters::{set, Set};
-use comparison::scheme::{decapsulate, decrypt, encapsulate, encrypt, exchange_key, key};
+use comparison::scheme::{
+    decapsulate, decrypt, encapsulate, encrypt, exchange_key, key, public_polynomials, sealed_numbers, secret, secret_numbers,
+};
+use comparison::sheet::noise;
 use comparison::sponge::shake256;
 use std::collections::HashMap;
 
@@ -37,16 +42,59 @@ fn digest(bytes: &[u8]) -> String {
     hex(&out)
 }
 
+/// As many of the numbers as the known answer has.
+fn first<T: ToString>(numbers: &[T], known: &str) -> String {
+    let count = known.split(' ').count();
+    numbers[..count].iter().map(T::to_string).collect::<Vec<_>>().join(" ")
+}
+
 #[test]
 fn encryption_sets() {
     for (s, known) in answers().iter().filter(|(s, _)| !s.is_exchange()) {
         let (public, secret) = key(s, &bytes(known["key_seed"])).unwrap();
         assert_eq!(hex(&secret), known["secret_key"]);
         assert_eq!(digest(&public), known["public_key_shake256"]);
+        assert_eq!(hex(&public[..48]), known["public_key_first_48"]);
         let message = bytes(known["message"]);
         let ciphertext = encrypt(s, &public, &message, &bytes(known["sealing_seed"])).unwrap();
         assert_eq!(digest(&ciphertext), known["ciphertext_shake256"]);
+        assert_eq!(hex(&ciphertext[ciphertext.len() - 16..]), known["ciphertext_last_16"]);
         assert_eq!(decrypt(s, &secret, &ciphertext).unwrap(), message);
+    }
+}
+
+#[test]
+fn numbers_of_the_key() {
+    for (s, known) in answers().iter().filter(|(s, _)| !s.is_exchange()) {
+        let seed = bytes(known["secret_key"]);
+        let (stored, mut source) = secret(s, &seed).unwrap();
+        let errors = key_errors(s, &mut source);
+        let polynomials = public_polynomials(s, &bytes(&known["public_key_first_48"][..64])).unwrap();
+        let same = |name: &str, numbers: String| assert_eq!(numbers, known[name], "set {} {name}", s.number);
+        same("s_hat_first_8", first(&stored, known["s_hat_first_8"]));
+        same("s_first_8", first(&secret_numbers(s, &seed).unwrap(), known["s_first_8"]));
+        for i in 0..2 {
+            let (a, e) = (format!("a_polynomial_{i}_first_4"), format!("e_polynomial_{i}_first_8"));
+            same(&a, first(&polynomials[i], known[a.as_str()]));
+            same(&e, first(&errors[i * (s.d + s.k)..], known[e.as_str()]));
+        }
+    }
+}
+
+#[test]
+fn numbers_of_the_sealing() {
+    for (s, known) in answers().iter().filter(|(s, _)| !s.is_exchange()) {
+        let [key_seed, seed, message] = ["key_seed", "sealing_seed", "message"].map(|name| bytes(known[name]));
+        let multipliers = sealing_multipliers(s, &seed);
+        let (c1, c2) = sealed_numbers(s, &key(s, &key_seed).unwrap().0, &message, &seed).unwrap();
+        let noise = noise(s, &key_seed, &seed, &message).unwrap();
+        let same = |name: &str, numbers: String| assert_eq!(numbers, known[name], "set {} {name}", s.number);
+        same("r_polynomial_0_first_8", first(&multipliers, known["r_polynomial_0_first_8"]));
+        same("r_last_8", first(&multipliers[multipliers.len() - 8..], known["r_last_8"]));
+        same("c1_first_4", first(&Transform::new(s, 1, true).scaled(&c1), known["c1_first_4"]));
+        same("c2_before_packing_first_8", first(&c2, known["c2_before_packing_first_8"]));
+        same("noise_first_8", first(&noise, known["noise_first_8"]));
+        same("noise_largest_size", noise.iter().map(|z| z.abs()).max().unwrap().to_string());
     }
 }
 

@@ -10,11 +10,11 @@ use lib.ListN.{length, getD, set}
 use mir.Syntax.{w32, w64}
 use mir.Val.{SFits, ofZ, toZ}
 use mir.ValLaws.{toZ-ofZ}
-use Rattle.maths.specs.Integer.{sumℤ}
+use Rattle.maths.specs.Integer.{sumℤ, productℤ}
 use Rattle.maths.proofs.Integer.{natAbs-+ℤ, natAbs-*ℤ}
 use Rattle.calls.specs.Region.{region}
 use Rattle.sets.specs.Table.{none, table, setOf}
-use Rattle.numbers.specs.Noise.{productℤ, numbersNoise}
+use Rattle.numbers.specs.Noise.{numbersNoise}
 use Rattle.bench_rows.specs.Bench.{bench}
 
 -- both entries of a list of two written

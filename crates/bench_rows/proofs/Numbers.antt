@@ -16,8 +16,9 @@ use Rattle.calls.specs.Region.{region}
 use Rattle.calls.proofs.Checks.{refuseFirst-accepted, passing-all}
 use Rattle.calls.proofs.Region.{region-length, region-entry}
 use Rattle.sets.specs.Table.{none, table, setOf}
-use Rattle.claim.specs.Claim.{Inputs}
-use Rattle.bench_rows.specs.Bench.{bench, signed, benchPublic, benchSecret, benchErrors, benchMultipliers, benchMessage, benchFits, benchAnswer}
+use Rattle.claim.specs.Claim.{drawn}
+use Rattle.claim.proofs.Numbers.{Inputs, key-takes, sealing-takes}
+use Rattle.bench_rows.specs.Bench.{bench, signed, benchPublic, benchSecret, benchErrors, benchMultipliers, benchMessage, benchHanded, benchFits, benchAnswer}
 use Rattle.bench_rows.specs.Operands.{Small}
 use Rattle.bench_rows.proofs.ByteLaws.{signed-zero, bench-multiplier, fits-residue, fits-error, fits-multiplier, fits-message}
 
@@ -107,7 +108,7 @@ module _ (input : List ℕ) (size : length input ≡ 14) (answer : benchAnswer i
   message-size = region-length input 12 2 (omega arith)
 
   -- what key and sealing take
-  pub bench-inputs : Inputs bench (benchPublic input) (benchSecret input) (benchErrors input) (benchMultipliers input) (benchMessage input)
+  bench-inputs : Inputs bench (benchPublic input) (benchSecret input) (benchErrors input) (benchMultipliers input) (benchMessage input)
   bench-inputs =
       record {
         public-length = public-size ∙ sym bench-public;
@@ -121,6 +122,16 @@ module _ (input : List ℕ) (size : length input ≡ 14) (answer : benchAnswer i
         message-length = message-size ∙ sym bench-message;
         message = λ i h. let k : i < 2 = omega (arith, message-size) in rw (region-entry input 12 2 i 0 k) (message-at i k);
       }
+
+  -- key and sealing accept them
+  pub bench-drawn : drawn 0 (benchHanded input) ≡ accepted
+  bench-drawn =
+      let a = benchPublic input in
+      let s = benchSecret input in
+      let e = benchErrors input in
+      let r = benchMultipliers input in
+      let m = benchMessage input in
+      rw (key-takes 0 (omega arith) a s e r m bench-inputs) (sealing-takes 0 (omega arith) a s e r m bench-inputs)
 
   -- errors and multipliers are small
   pub bench-small : Small (benchErrors input) (benchMultipliers input)

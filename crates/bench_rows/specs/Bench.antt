@@ -1,16 +1,15 @@
--- Set 0, Bench, on the bench sheet (01, The bench sheet, Noise, and What demand 3 speaks of): the numbers in a sheet's input of 14 bytes, the answer, the numbers of the rows, and demand 3 on them.
+-- Set 0, Bench, on the bench sheet (01, The bench sheet, Noise): the numbers in a sheet's input of 14 bytes, the answer, and the numbers of the rows.
 -- Assumes nothing.
 use mathlib.Core.Path.{_≡_, refl}
 use mathlib.Core.Bool.{Bool, true, cond}
 use mathlib.Core.List.{List, [], _∷_, map}
-use Prim.Native.Nat.{ℕ, _+_, _-_, _*_, _<_}
+use Prim.Native.Nat.{ℕ, _-_}
 use lib.Dec.{ltb}
-use lib.IntN.{ℤ, pos, negsuc, natAbs}
-use lib.ListN.{getD}
-use Rattle.maths.specs.Vector.{at, tabulate}
+use lib.IntN.{ℤ, pos, negsuc}
+use Rattle.maths.specs.Vector.{tabulate}
 use Rattle.maths.specs.Sum.{sum}
 use Rattle.maths.specs.Product.{product}
-use Rattle.maths.specs.Integer.{residue, sumℤ}
+use Rattle.maths.specs.Integer.{residue, sumℤ, productℤ}
 use Rattle.maths.specs.Rounding.{floorBit}
 use Rattle.calls.specs.Outcome.{Outcome, accepted, refused}
 use Rattle.calls.specs.Checks.{passing, refuseFirst, below}
@@ -20,8 +19,8 @@ use Rattle.sets.specs.Table.{none, table, setOf}
 use Rattle.sets.specs.Derived.{halfModulus}
 use Rattle.numbers.specs.Scheme.{key, sumOfProducts, firstPart, secondPart, opened, bitRead, reading}
 use Rattle.numbers.specs.Calls.{isError, isMultiplier, multiplierBound}
-use Rattle.numbers.specs.Noise.{productℤ, numbersNoise}
-use Rattle.claim.specs.Claim.{sealedPart}
+use Rattle.numbers.specs.Noise.{numbersNoise}
+use Rattle.claim.specs.Claim.{Handed, onNumbers, firstOf, secondOf}
 
 -- the parameters of set 0
 abbrev pub bench : Parameters
@@ -47,6 +46,10 @@ benchMultipliers input = map signed (region input 10 2)
 abbrev pub benchMessage : List ℕ → List ℕ
 benchMessage input = region input 12 2
 
+-- what such an input hands in
+abbrev pub benchHanded : List ℕ → Handed
+benchHanded input = onNumbers (benchPublic input) (benchSecret input) (benchErrors input) (benchMultipliers input) (benchMessage input)
+
 -- whether the byte at a place of the input is in range: place 0 is the set byte, whose value the caller has seen
 unfoldable pub benchFits : ℕ → ℕ → Bool
 benchFits place byte =
@@ -66,14 +69,8 @@ benchNoise input = map (numbersNoise bench (benchErrors input) (benchMultipliers
 -- the bits that reading gives on what key and sealing give
 unfoldable pub benchRead : List ℕ → List ℕ
 benchRead input =
-    reading 0 bench (firstPart bench (benchPublic input) (benchMultipliers input))
-    (sealedPart bench (benchPublic input) (benchSecret input) (benchErrors input) (benchMultipliers input) (benchMessage input)) (benchSecret input)
-
--- demand 3 for the row of place j, where N is its noise: the bit sent is read while 2|N| < h, and the other one while h + 2 < 2|N| < 3h
-pub record BenchReads (input : List ℕ) (j : ℕ) : Type 0 where
-  pub reads : 2 * natAbs (getD (benchNoise input) j (pos 0)) < halfModulus bench → at (benchRead input) j ≡ at (benchMessage input) j
-  pub misreads : halfModulus bench + 2 < 2 * natAbs (getD (benchNoise input) j (pos 0)) → 2 * natAbs (getD (benchNoise input) j (pos 0)) < 3 * halfModulus bench
-      → at (benchRead input) j ≡ 1 - at (benchMessage input) j
+    reading 0 bench (firstOf 0 (benchPublic input) (benchMultipliers input))
+    (secondOf 0 (benchPublic input) (benchSecret input) (benchErrors input) (benchMultipliers input) (benchMessage input)) (benchSecret input)
 
 -- 01's example: a 3 5, s 1 2 3 4, e 1 0 −1, r 1 −2, message 1 0
 abbrev example : List ℕ

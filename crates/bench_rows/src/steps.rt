@@ -8,7 +8,8 @@ ghost use lib.IntN.{_+ℤ_, _*ℤ_, natAbs};
 ghost use lib.ListN.{length};
 ghost use Rattle.numbers.specs.Scheme as scheme;
 ghost use Rattle.numbers.specs.Noise as noises;
-ghost use Rattle.claim.specs.Claim.{Inputs, sealedPart};
+ghost use Rattle.calls.specs.Outcome.{accepted};
+ghost use Rattle.claim.specs.Claim.{onNumbers, firstOf, secondOf, drawn};
 ghost use Rattle.bench_rows.specs.Bench.{bench, benchPublic, benchSecret, benchErrors, benchMultipliers, benchNoise, benchRead};
 ghost use Rattle.bench_rows.specs.Operands.{Small, Accepted};
 
@@ -51,8 +52,10 @@ fn read_through(
     c2: &mut [u32],
     read: &mut [u32],
 )
-    requires { ⌜ Inputs bench (now a) (now s) (now e) (now r) (now m) × (length (now b) ≡ 3) × (length (now c1) ≡ 3) × (length (now c2) ≡ 2) × (length (now read) ≡ 2) ⌝ }
-    ensures { λ _. ⌜ now (read .exit) ≡ scheme.reading 0 bench (scheme.firstPart bench (now (a .entry)) (now (r .entry))) (sealedPart bench (now (a .entry)) (now (s .entry)) (now (e .entry)) (now (r .entry)) (now (m .entry))) (now (s .entry)) ⌝ }
+    requires { ⌜ (drawn 0 (onNumbers (now a) (now s) (now e) (now r) (now m)) ≡ accepted)
+        × (length (now b) ≡ 3) × (length (now c1) ≡ 3) × (length (now c2) ≡ 2) × (length (now read) ≡ 2) ⌝ }
+    ensures { λ _. ⌜ now (read .exit) ≡ scheme.reading 0 bench (firstOf 0 (now (a .entry)) (now (r .entry)))
+        (secondOf 0 (now (a .entry)) (now (s .entry)) (now (e .entry)) (now (r .entry)) (now (m .entry))) (now (s .entry)) ⌝ }
 {
     numbers::key::key(0, a, s, e, b);
     numbers::sealing::sealing(0, a, b, r, m, c1, c2);
@@ -61,8 +64,9 @@ fn read_through(
 
 // The same with arrays of its own for them.
 fn read_bits(a: &[u32], s: &[u32], e: &[i32], r: &[i32], m: &[u32], read: &mut [u32])
-    requires { ⌜ Inputs bench (now a) (now s) (now e) (now r) (now m) × (length (now read) ≡ 2) ⌝ }
-    ensures { λ _. ⌜ now (read .exit) ≡ scheme.reading 0 bench (scheme.firstPart bench (now (a .entry)) (now (r .entry))) (sealedPart bench (now (a .entry)) (now (s .entry)) (now (e .entry)) (now (r .entry)) (now (m .entry))) (now (s .entry)) ⌝ }
+    requires { ⌜ (drawn 0 (onNumbers (now a) (now s) (now e) (now r) (now m)) ≡ accepted) × (length (now read) ≡ 2) ⌝ }
+    ensures { λ _. ⌜ now (read .exit) ≡ scheme.reading 0 bench (firstOf 0 (now (a .entry)) (now (r .entry)))
+        (secondOf 0 (now (a .entry)) (now (s .entry)) (now (e .entry)) (now (r .entry)) (now (m .entry))) (now (s .entry)) ⌝ }
 {
     let mut b: [u32; 3] = [0; 3];
     let mut c1: [u32; 3] = [0; 3];

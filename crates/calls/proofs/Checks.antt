@@ -41,6 +41,27 @@ allOf-false (t ∷ ts) zero e = rw e
 allOf-false (true ∷ ts) (suc i) e = allOf-false ts i e
 allOf-false (false ∷ ts) (suc i) e = refl
 
+-- the tests of two lists all hold: those of each hold
+pub both-hold : (xs ys : List Bool) → allOf (xs ++ ys) ≡ true → (allOf xs ≡ true) × (allOf ys ≡ true)
+unfolding allOf
+both-hold [] ys e = (refl, e)
+both-hold (true ∷ xs) ys e = both-hold xs ys e
+both-hold (false ∷ xs) ys e = let z : _≡_ {A = ℕ} 0 1 = cc in absurd (omega arith)
+
+-- those of the first list hold: those of the second decide
+pub second-decides : (xs ys : List Bool) → allOf xs ≡ true → allOf (xs ++ ys) ≡ allOf ys
+unfolding allOf
+second-decides [] ys e = refl
+second-decides (true ∷ xs) ys e = second-decides xs ys e
+second-decides (false ∷ xs) ys e = let z : _≡_ {A = ℕ} 0 1 = cc in absurd (omega arith)
+
+-- one of the first list fails: not all hold
+pub first-fails : (xs ys : List Bool) → allOf xs ≡ false → allOf (xs ++ ys) ≡ false
+unfolding allOf
+first-fails [] ys e = let z : _≡_ {A = ℕ} 0 1 = cc in absurd (omega arith)
+first-fails (true ∷ xs) ys e = first-fails xs ys e
+first-fails (false ∷ xs) ys e = refl
+
 -- a count above k: this entry passes, and so do at least k after it
 further-more : (t : Bool) (n k : ℕ) → k < further t n → (t ≡ true) × (k ≤ n)
 further-more true n k h = (refl, omega arith)
@@ -65,18 +86,6 @@ module _ {A : Type 0} (test : ℕ → A → Bool) where
   passing-before start (x ∷ xs) d zero h = rw add-zero (further-more (test start x) _ 0 h .0)
   passing-before start (x ∷ xs) d (suc k) h =
       rw add-suc (rw suc-add at (passing-before (suc start) xs d k (further-more (test start x) _ (suc k) h .1)))
-
-  -- the entry where the count of passing entries stops fails
-  pub passing-at : (start : ℕ) (xs : List A) (d : A) → passing test start xs < length xs → test (start + passing test start xs) (getD xs (passing test start xs) d) ≡ false
-  unfolding passing
-  passing-at start [] d h = absurd (omega arith)
-  passing-at start (x ∷ xs) d h = go (test start x) refl h (passing-at (suc start) xs d)
-    where
-      go : (t : Bool) → test start x ≡ t → further t (passing test (suc start) xs) < suc (length xs)
-          → (passing test (suc start) xs < length xs → test (suc start + passing test (suc start) xs) (getD xs (passing test (suc start) xs) d) ≡ false)
-          → test (start + further t (passing test (suc start) xs)) (getD (x ∷ xs) (further t (passing test (suc start) xs)) d) ≡ false
-      go true e h ih = rw add-suc (rw suc-add at (ih (omega arith)))
-      go false e h ih = rw add-zero e
 
   -- a place up to which every entry passes, and where the entry fails or the list ends, is the count
   pub passing-is : (start : ℕ) (xs : List A) (d : A) (r : ℕ) → r ≤ length xs → ((k : ℕ) → k < r → test (start + k) (getD xs k d) ≡ true)

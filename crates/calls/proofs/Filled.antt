@@ -3,10 +3,12 @@
 use mathlib.Core.Path.{_≡_, refl, sym, ap, _∙_}
 use mathlib.Core.List.{List}
 use Prim.Native.Nat.{ℕ, suc, _+_, _≤_, _<_}
+use native.Mathlib.Nat.{zero-add}
 use native.Mathlib.Numerals.{add-one}
 use native.Mathlib.Omega.{arith}
 use lib.ListN.{length, getD, set, take, length-set}
 use lib.Seq.{paste, paste-zero, paste-suc, length-take-le, take-all}
+use Rattle.maths.specs.Vector.{at}
 use Rattle.calls.specs.Region.{over}
 use Rattle.calls.proofs.Region.{over-parts, over-outside, over-whole}
 
@@ -44,11 +46,15 @@ module _ {A : Type 0} {old : List A} {at n : ℕ} {ys : List A} where
   pub filled-all : {i : ℕ} {new : List A} → Filled old at n ys i new → n ≤ i → new ≡ over old at ys
   filled-all {i} f h = f .written ∙ ap (over old at) (take-all i ys (omega arith))
 
-  -- an entry outside the region is as it was
-  pub filled-outside : {i : ℕ} {new : List A} (k : ℕ) (d : A) → Filled old at n ys i new → ((j : ℕ) → j < n → k ≡ at + j → ⊥) → getD new k d ≡ getD old k d
-  filled-outside {i} k d f h =
-      let l : length (take i ys) ≡ i = length-take-le i ys (omega arith) in
-      rw (f .written) (over-outside old at (take i ys) (omega arith) k d (λ j m. h j (omega arith)))
+-- a number that a loop over a region has not reached yet is as it was
+pub ahead-at : {old ys new : List ℕ} {start n i : ℕ} (k : ℕ) → Filled old start n ys i new → i ≤ k → at new (start + k) ≡ at old (start + k)
+ahead-at {old} {ys} {start = start} {i = i} k f h =
+    let size : length (take i ys) ≡ i = length-take-le i ys (omega (arith, f .entries, f .within)) in
+    rw (f .written) (over-outside old start (take i ys) (omega (arith, f .room, f .within)) (start + k) 0 (λ j l e. omega arith))
+
+-- the number that a loop over all places reaches next is as it was
+pub ahead : {old ys new : List ℕ} {n k : ℕ} → Filled old 0 n ys k new → at new k ≡ at old k
+ahead {k = k} f = rw zero-add at (ahead-at k f (omega arith))
 
 -- after the last turn of a loop that writes all places
 pub filled-whole : {A : Type 0} {old : List A} {n : ℕ} {ys : List A} {i : ℕ} {new : List A} → Filled old 0 n ys i new → length old ≡ n → n ≤ i → new ≡ ys

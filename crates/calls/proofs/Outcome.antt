@@ -5,8 +5,7 @@ use mathlib.Core.Bool.{Bool, true, false}
 use mathlib.Core.List.{List}
 use Prim.Native.Nat.{ℕ}
 use native.Mathlib.Omega.{arith}
-use lib.ListN.{length}
-use Rattle.calls.specs.Outcome.{Outcome, accepted, refused, refuse, leaves}
+use Rattle.calls.specs.Outcome.{Outcome, accepted, refused, refuse, leaves, andThen}
 
 -- an accepted call is not refused
 pub accepted-refused : {o : Outcome} {number place : ℕ} → o ≡ accepted → o ≡ refused number place → ⊥
@@ -25,6 +24,11 @@ pub refuse-accepted : (t : Bool) (number place : ℕ) (after : Outcome) → refu
 refuse-accepted true number place after e = absurd (accepted-refused e refl)
 refuse-accepted false number place after e = (refl, e)
 
+-- two calls in turn are accepted: both are
+pub andThen-accepted : (first after : Outcome) → andThen first after ≡ accepted → (first ≡ accepted) × (after ≡ accepted)
+andThen-accepted accepted after e = (refl, e)
+andThen-accepted (refused number place) after e = absurd (accepted-refused e refl)
+
 module _ {A : Type 0} (new old : List A) where
   -- an accepted call leaves the new entries
   pub leaves-accepted : {o : Outcome} → o ≡ accepted → leaves o new old ≡ new
@@ -34,10 +38,10 @@ module _ {A : Type 0} (new old : List A) where
   pub leaves-refused : {o : Outcome} {number place : ℕ} → o ≡ refused number place → leaves o new old ≡ old
   leaves-refused e = rw e
 
-  -- an output keeps its length
-  pub leaves-length : (o : Outcome) → length new ≡ length old → length (leaves o new old) ≡ length old
-  leaves-length accepted e = e
-  leaves-length (refused number place) e = refl
+-- what is the same before and after is left so, whatever the answer
+pub leaves-same : {A : Type 0} (o : Outcome) (xs : List A) → leaves o xs xs ≡ xs
+leaves-same accepted xs = refl
+leaves-same (refused number place) xs = refl
 
 module _ {A : Type 0} {o : Outcome} (new old : List A) where
   -- a refused call: the answer, and the output as it was

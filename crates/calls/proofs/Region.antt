@@ -9,7 +9,7 @@ use native.Mathlib.Decide.{decLt}
 use native.Mathlib.Omega.{arith}
 use lib.ListN.{length, getD, take, drop, length-append, length-take, length-drop, take-append-drop, List·getD-append}
 use lib.Seq.{length-take-le, take-at, drop-at, drop-drop, take-add, take-append-le, drop-append-le, getD-take, getD-drop, getD-append-add, ext-getD, take-all, drop-length}
-use Rattle.calls.specs.Region.{region, over, vector, joined, Apart}
+use Rattle.calls.specs.Region.{region, over, vector, joined}
 
 module _ {A : Type 0} where
   -- two lists of one length that agree at each place are equal, whatever entry is read past the end
@@ -130,14 +130,6 @@ module _ {A : Type 0} where
     pub region-over-same : (n : ℕ) → length ys ≡ n → region (over xs at ys) at n ≡ ys
     region-over-same n e =
         ap (λ (k : ℕ). region (over xs at ys) k n) (sym (add-zero at)) ∙ region-over-inside 0 n (omega arith) ∙ region-whole ys n e
-
-    -- a region that is apart from the entries written, before or after them
-    pub region-over-apart : (from n : ℕ) → from + n ≤ length xs → Apart from n at (length ys) → region (over xs at ys) from n ≡ region xs from n
-    region-over-apart from n room a =
-        let l : length (region (over xs at ys) from n) ≡ n = region-length (over xs at ys) from n (omega (arith, over-length)) in
-        same-entries _ _ (l ∙ sym (region-length xs from n room))
-        (λ e i h. let k : i < n = omega arith in
-        region-entry (over xs at ys) from n i e k ∙ over-outside (from + i) e (λ j m. a .apart i j k m) ∙ sym (region-entry xs from n i e k))
 
     -- of two writes at the same place the later one stays
     pub over-over : (zs : List A) → length ys ≡ length zs → over (over xs at ys) at zs ≡ over xs at zs

@@ -27,6 +27,11 @@ abbrev pub leaves : {A : Type 0} → Outcome → List A → List A → List A
 leaves accepted new old = new
 leaves (refused number place) new old = old
 
+-- one call after another: the second is made only where the first is accepted
+abbrev pub andThen : Outcome → Outcome → Outcome
+andThen accepted after = after
+andThen (refused number place) after = refused number place
+
 outcome-example : outcome (Refused 3 7) ≡ refused 3 7
 outcome-example = refl
 
@@ -36,3 +41,7 @@ refuse-example = refl
 
 leaves-example : _≡_ {A = List ℕ} (leaves (refused 2 0) (1 ∷ 2 ∷ []) (8 ∷ 9 ∷ [])) (8 ∷ 9 ∷ [])
 leaves-example = refl
+
+-- the first refusal decides
+andThen-example : andThen accepted (andThen (refused 5 0) (refused 2 0)) ≡ refused 5 0
+andThen-example = refl

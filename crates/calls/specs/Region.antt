@@ -1,9 +1,9 @@
--- A region of a list: its entries from a place on, a list with other entries in a region, and two regions that are apart.
+-- A region of a list: its entries from a place on, and a list with other entries in a region.
 -- By these the contracts speak of the parts of one lent slice, as of the work slice (01, How each call answers).
 -- Assumes nothing.
 use mathlib.Core.Path.{_≡_, refl}
 use mathlib.Core.List.{List, [], _∷_, _++_}
-use Prim.Native.Nat.{ℕ, zero, suc, _+_, _*_, _<_}
+use Prim.Native.Nat.{ℕ, zero, suc, _+_, _*_}
 use lib.ListN.{length, take, drop}
 
 -- the n entries of xs from place at on
@@ -22,10 +22,6 @@ vector n xs i = region xs (n * i) n
 unfoldable pub joined : {A : Type 0} → ℕ → (ℕ → List A) → List A
 joined zero f = []
 joined (suc t) f = joined t f ++ f t
-
--- the n places from one on and the m places from another on have no place in common
-pub record Apart (one n other m : ℕ) : Type 0 where
-  pub apart : (i j : ℕ) → i < n → j < m → one + i ≡ other + j → ⊥
 
 region-example : _≡_ {A = List ℕ} (region (1 ∷ 2 ∷ 3 ∷ 4 ∷ []) 1 2) (2 ∷ 3 ∷ [])
 unfolding region

@@ -3,7 +3,7 @@ ghost use mathlib.Core.Path.{_≡_};
 ghost use Prim.Native.Nat.{_+_, _≤_};
 ghost use lib.ListN.{length, replicate};
 ghost use Rattle.calls.specs.Checks.{passing, below};
-ghost use Rattle.calls.specs.Region.{region, over, Apart};
+ghost use Rattle.calls.specs.Region.{region, over};
 
 // What an open call answers: done, or refused with a number and a place.
 pub enum Answer {
@@ -64,19 +64,6 @@ pub fn copy_out(dst: &mut [u32], work: &[u32], at: usize)
 {
     let end = at + dst.len();
     copy_in(dst, 0, &work[at..end]);
-}
-
-// Copies the `n` numbers from `from` on into the places from `to` on, which are apart from them.
-pub fn copy_within(work: &mut [u32], from: usize, to: usize, n: usize)
-    requires { ⌜ (from + n ≤ length (now work)) × (to + n ≤ length (now work)) × Apart from n to n ⌝ }
-    ensures { λ _. ⌜ now (work .exit) ≡ over (now (work .entry)) to (region (now (work .entry)) from n) ⌝ }
-{
-    let mut i: usize = 0;
-    while i < n {
-        let x = work[from + i];
-        work[to + i] = x;
-        i += 1;
-    }
 }
 
 // Copies bytes into the places from `at` on.

@@ -9,7 +9,7 @@ use lib.ListN.{length, getD, take, drop, length-take}
 use Rattle.maths.specs.Vector.{at}
 use Rattle.maths.specs.Sum.{sum}
 use Rattle.maths.specs.Congruence.{Mod}
-use Rattle.maths.specs.Integer.{residue}
+use Rattle.maths.specs.Integer.{residue, productℤ}
 use Rattle.maths.proofs.Sum.{sum-cong}
 use Rattle.maths.proofs.Congruence.{mod-eq, mod-sym, mod-trans, mod-sum, mod-remainder}
 use Rattle.maths.proofs.Integer.{residue-*ℤ, residue-sumℤ}
@@ -17,8 +17,8 @@ use Rattle.calls.specs.Region.{region}
 use Rattle.sets.specs.declared.Parameters.{Parameters}
 use Rattle.calls.specs.Region.{vector}
 use Rattle.numbers.specs.Scheme.{residues}
-use Rattle.numbers.specs.Noise.{productℤ, numbersNoise}
-use Rattle.numbers.proofs.KeyLaws.{residues-at}
+use Rattle.numbers.specs.Noise.{numbersNoise}
+use Rattle.numbers.proofs.Laws.{residues-at}
 
 module _ {A B : Type 0} (f : A → B) where
   -- the first entries of a mapped list

@@ -1,1 +1,1 @@
-// Theory only: what is read from a sealing under a key (01, demand 3 on numbers); the functions are those of `numbers`.
+// Theory only: demand 3 for every set (01, What demand 3 speaks of); the functions are those of `numbers`, `encryption` and `exchange`.

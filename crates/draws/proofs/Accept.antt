@@ -131,15 +131,6 @@ module _ (q threshold : ℕ) where
   pub accept-length : (wanted run : ℕ) (cs xs : List ℕ) → run < 128 → accept q threshold wanted run cs ≡ taken xs → length xs ≡ wanted
   accept-length wanted run cs xs h e = rw e at (accept-within wanted run cs h)
 
-  -- 128 candidates for each result always suffice
-  pub accept-suffices : (wanted run : ℕ) (cs xs : List ℕ) (left : ℕ) → run < 128 → 128 * wanted ≤ length cs + run → accept q threshold wanted run cs ≡ ended xs left → ⊥
-  accept-suffices wanted run cs xs left h enough e = let short : Short wanted (length cs + run) xs left = rw e at (accept-within wanted run cs h) in omega (arith, short .few)
-
-  -- a draw that has its numbers takes no more candidates
-  pub accept-enough : (wanted run : ℕ) (cs ds xs : List ℕ) → accept q threshold wanted run cs ≡ taken xs → accept q threshold wanted run (cs ++ ds) ≡ taken xs
-  unfolding resume
-  accept-enough wanted run cs ds xs e = rw (accept-append wanted run cs ds, e)
-
   -- each number taken is a residue
   pub accept-below : (wanted run : ℕ) (cs : List ℕ) (i : ℕ) → 0 < q → getD (numbers (accept q threshold wanted run cs)) i 0 < q
   unfolding numbers

@@ -108,9 +108,3 @@ candidates-drop zero bytes = refl
 candidates-drop (suc k) bytes =
     let e : 3 * suc k ≡ 3 + 3 * k = omega arith in
     rw (e, ← drop-drop) (candidates-drop k (drop 3 bytes) ∙ after-first k bytes)
-
--- candidate j is the number of bytes 3j, 3j + 1 and 3j + 2
-pub candidates-at : (bytes : List ℕ) (j : ℕ) → 3 * j + 3 ≤ length bytes → getD (candidates bytes) j 0 ≡ littleEndian (region bytes (3 * j) 3)
-candidates-at bytes j h =
-    let first : getD (drop j (candidates bytes)) 0 0 ≡ littleEndian (region bytes (3 * j) 3) = rw (← candidates-drop j bytes, candidates-first bytes (3 * j) h) in
-    ap (λ (k : ℕ). getD (candidates bytes) k 0) (sym (add-zero j)) ∙ sym (getD-drop j (candidates bytes) 0 0) ∙ first

@@ -5,3 +5,4 @@ pub mod Results
 pub mod Bits
 pub mod Positions
 pub mod Answers
+pub mod Laws

@@ -11,7 +11,7 @@ ghost use Rattle.scheme.specs.Encryption.{secretSeed, publicKey, ciphertext, re
 ghost use Rattle.scheme.specs.Answers.{refuseSet, workLength, workLeft, keyLengths, encryptLengths, openingLengths, readingDraws, encryptionKeyAnswer, encryptAnswer, decryptAnswer};
 
 // Refused with 1 when the set is not 1 to 12, with 8 when it is not an encryption set.
-fn set_checked(set: usize) -> Answer
+pub fn set_checked(set: usize) -> Answer
     ensures { λ r. ⌜ outcome r ≡ refuseSet isEncryption set accepted ⌝ }
 {
     if set < 1 {
@@ -27,7 +27,7 @@ fn set_checked(set: usize) -> Answer
 }
 
 // Whether the slices of key have the set's lengths.
-fn key_fits(set: usize, seed: usize, public: usize, secret: usize, work: usize) -> bool
+pub fn key_fits(set: usize, seed: usize, public: usize, secret: usize, work: usize) -> bool
     requires { ⌜ set < 13 ⌝ }
     ensures { λ r. ⌜ r ≡ allOf (keyLengths set seed public secret work) ⌝ }
 {
@@ -48,7 +48,7 @@ fn key_fits(set: usize, seed: usize, public: usize, secret: usize, work: usize) 
 }
 
 // Whether the slices of encrypt have the set's lengths.
-fn encrypt_fits(
+pub fn encrypt_fits(
     set: usize,
     public: usize,
     message: usize,
@@ -78,7 +78,7 @@ fn encrypt_fits(
 }
 
 // Whether the slices of decrypt have the set's lengths.
-fn decrypt_fits(set: usize, secret: usize, sealed: usize, message: usize, work: usize) -> bool
+pub fn decrypt_fits(set: usize, secret: usize, sealed: usize, message: usize, work: usize) -> bool
     requires { ⌜ set < 13 ⌝ }
     ensures { λ r. ⌜ r ≡ allOf (openingLengths set secret sealed message work) ⌝ }
 {

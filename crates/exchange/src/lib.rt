@@ -16,7 +16,7 @@ mod opened;
 mod sealed;
 
 // Refused with 1 when the set is not 1 to 12, with 8 when it is not an exchange set.
-fn set_checked(set: usize) -> Answer
+pub fn set_checked(set: usize) -> Answer
     ensures { λ r. ⌜ outcome r ≡ refuseSet isExchange set accepted ⌝ }
 {
     if set < 1 {
@@ -32,7 +32,7 @@ fn set_checked(set: usize) -> Answer
 }
 
 // Whether the slices of key have the set's lengths.
-fn key_fits(set: usize, seed: usize, public: usize, secret: usize, work: usize) -> bool
+pub fn key_fits(set: usize, seed: usize, public: usize, secret: usize, work: usize) -> bool
     requires { ⌜ set < 13 ⌝ }
     ensures { λ r. ⌜ r ≡ allOf (keyLengths set seed public secret work) ⌝ }
 {
@@ -53,7 +53,7 @@ fn key_fits(set: usize, seed: usize, public: usize, secret: usize, work: usize) 
 }
 
 // Whether the slices of encapsulate have the set's lengths.
-fn encapsulate_fits(
+pub fn encapsulate_fits(
     set: usize,
     public: usize,
     message: usize,
@@ -83,7 +83,13 @@ fn encapsulate_fits(
 }
 
 // Whether the slices of decapsulate have the set's lengths.
-fn decapsulate_fits(set: usize, secret: usize, sealed: usize, shared: usize, work: usize) -> bool
+pub fn decapsulate_fits(
+    set: usize,
+    secret: usize,
+    sealed: usize,
+    shared: usize,
+    work: usize,
+) -> bool
     requires { ⌜ set < 13 ⌝ }
     ensures { λ r. ⌜ r ≡ allOf (openingLengths set secret sealed shared work) ⌝ }
 {

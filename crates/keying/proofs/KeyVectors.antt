@@ -24,9 +24,8 @@ use Rattle.sets.proofs.Rules.{rules}
 use Rattle.samplers.specs.Seeded.{publicCounter, publicDrawn}
 use Rattle.transformed.specs.Stored.{sentInverse, recovered, correlations}
 use Rattle.transformed.specs.Placed.{Placed, Correlated}
-use Rattle.transformed.proofs.Recovered.{recovered-take}
-use Rattle.transformed.proofs.Vectors.{sentInverse-placed}
-use Rattle.draws.proofs.Accept.{accept-below}
+use Rattle.transformed.proofs.Laws.{recovered-take, sentInverse-placed}
+use Rattle.draws.proofs.Laws.{accept-below}
 use Rattle.samplers.specs.Blocks.{uniform, drawnFrom}
 use Rattle.scheme.specs.Encryption.{keyVector, publicPolynomial}
 use Rattle.scheme.specs.Answers.{isTaken, allTaken}

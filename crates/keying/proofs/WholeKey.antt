@@ -21,14 +21,13 @@ use Rattle.sets.specs.Table.{setOf}
 use Rattle.sets.specs.Derived.{transformSize, packedBytes}
 use Rattle.sets.proofs.Rules.{rules}
 use Rattle.packing.specs.Digits.{Digit, pack}
-use Rattle.draws.proofs.Accept.{accept-below}
+use Rattle.draws.proofs.Laws.{accept-below}
 use Rattle.source.specs.Source.{sourceBytes}
 use Rattle.samplers.specs.Blocks.{uniform, drawnFrom}
 use Rattle.samplers.specs.Seeded.{errorCount, secretDrawn, secretCounter, publicDrawn, errorsDrawn}
-use Rattle.samplers.proofs.Uniform.{uniform-length}
-use Rattle.samplers.proofs.Values.{errorsDrawn-length}
+use Rattle.samplers.proofs.Laws.{uniform-length, errorsDrawn-length}
 use Rattle.transformed.specs.Stored.{sentInverse}
-use Rattle.transformed.proofs.Vectors.{sentInverse-placed}
+use Rattle.transformed.proofs.Laws.{sentInverse-placed}
 use Rattle.scheme.specs.Encryption.{secretSeed, publicSeed, storedSecret, secret, errors, residueVector, publicVector, publicKey}
 use Rattle.scheme.specs.Answers.{isTaken, allTaken, keyDraws, workLength}
 use Rattle.keying.specs.Held.{vectorsStart, Held, SecretHeld, heldVector, storedVector}

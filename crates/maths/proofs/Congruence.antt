@@ -1,9 +1,9 @@
 -- Laws of congruence modulo q.
 -- Assumes nothing.
 use mathlib.Core.Path.{_≡_, refl, sym, ap, _∙_}
-use mathlib.Core.Logic.{_≢_, _↔_}
-use Prim.Native.Nat.{ℕ, zero, suc, _+_, _*_, _/_, _%_, _^_, _<_, _∣_}
-use native.Mathlib.Nat.{mod-mod, mod-zero, zero-mod, mod-eq-of-lt, mod-add-div', add-mod, add-mul-mod-self-right, mul-mod-left, pow-zero, pow-suc, mul-comm, one-mul, add-right-cancel, dvd-of-mod-eq-zero, mod-eq-zero-of-dvd}
+use mathlib.Core.Logic.{_≢_}
+use Prim.Native.Nat.{ℕ, zero, suc, _+_, _*_, _/_, _%_, _^_, _<_}
+use native.Mathlib.Nat.{mod-mod, mod-zero, zero-mod, mod-add-div', add-mod, add-mul-mod-self-right, mul-mod-left, pow-zero, pow-suc, mul-comm, one-mul, add-right-cancel}
 use native.Mathlib.Omega.{arith}
 use Rattle.maths.specs.Sum.{sum}
 use Rattle.maths.specs.Congruence.{Mod}
@@ -68,10 +68,6 @@ mod-sum-pick {q} n f k h e =
     let others : (i : ℕ) → i < n → i ≢ k → f i % q ≡ 0 = λ i l d. e i l d .same ∙ zero-mod q in
     mod-trans (mod-sum n f (λ i. f i % q) (λ i l. mod-sym (mod-remainder q (f i)))) (rw (sum-pick n (λ i. f i % q) k h others) (mod-remainder q (f k)))
 
--- two congruent numbers below q are equal
-pub mod-unique : {q a b : ℕ} → a < q → b < q → Mod q a b → a ≡ b
-mod-unique h k m = sym (mod-eq-of-lt h) ∙ m .same ∙ mod-eq-of-lt k
-
 -- a multiple of q may be added
 pub mod-add-multiple : (q a k : ℕ) → Mod q (a + k * q) a
 mod-add-multiple q a k = record { same = add-mul-mod-self-right a k q }
@@ -79,10 +75,6 @@ mod-add-multiple q a k = record { same = add-mul-mod-self-right a k q }
 -- a multiple of q is congruent to 0
 pub mod-multiple : (q k : ℕ) → Mod q (k * q) 0
 mod-multiple q k = record { same = mul-mod-left k q ∙ sym (zero-mod q) }
-
--- a number is congruent to 0 just where q divides it
-pub mod-divides : {q a : ℕ} → Mod q a 0 ↔ (q ∣ a)
-mod-divides {q} = (λ h. dvd-of-mod-eq-zero q (h .same ∙ zero-mod q), λ d. record { same = mod-eq-zero-of-dvd q d ∙ sym (zero-mod q) })
 
 -- an addend on both sides cancels
 pub mod-add-cancel : {q a b : ℕ} (c : ℕ) → Mod q (a + c) (b + c) → Mod q a b

@@ -40,11 +40,6 @@ correlation-by-transforms {q} {D} {w} {v} {e} r n u b i fits =
     let term : (j : ℕ) → j < n → Mod q (e * (u j * back j)) (u j * b (i + j)) = λ j h. rw mul-left-comm (mod-mul (mod-refl (u j)) (inversion (root-inverse r) b (i + j) (omega arith))) in
     rw (transform-shift D n w u (transformAt D v b) i, ← sum-mul-left) (mod-sum n (λ j. e * (u j * back j)) (λ j. u j * b (i + j)) term)
 
--- the same with the sums written out
-pub correlation-by-sums : {q D w v e : ℕ} → Root q D w v e → (n : ℕ) (u b : ℕ → ℕ) (i : ℕ) → i + n ≤ D → Mod q (e * sum D (λ m. sum n (λ j. u j * w ^ (m * j)) * transformAt D v b m * w ^ (i * m))) (correlation n u b i)
-unfolding transformAt
-correlation-by-sums r n u b i fits = correlation-by-transforms r n u b i fits
-
 -- place j of a factor of m places times the part of the other factor that meets it: all n places of that, or else place j is zero
 product-row : (D m n : ℕ) (f g : ℕ → ℕ) → m + n ≤ D + 1 → ((j : ℕ) → m ≤ j → f j ≡ 0) → ((j : ℕ) → n ≤ j → g j ≡ 0) → (j : ℕ) → j < D → f j * sum (D - j) g ≡ f j * sum D g
 product-row D m n f g fits f-end g-end j h =

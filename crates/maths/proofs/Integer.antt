@@ -1,12 +1,12 @@
--- Laws of whole numbers: the ring laws that the library lacks, sizes, finite sums, residues modulo q, and the centred residue.
+-- Laws of whole numbers: their parts and sizes, finite sums, residues modulo q, and the centred residue.
 -- Assumes nothing.
 use mathlib.Core.Path.{_≡_, refl, sym, ap, _∙_}
 use Prim.Native.Nat.{ℕ, zero, suc, _+_, _-_, _*_, _/_, _%_, _≤_, _<_}
-use native.Mathlib.Nat.{mod-lt, mod-eq-of-lt, mod-self, mod-add-div, mod-add-mod, add-mod-mod, add-mod, add-zero, zero-mul, zero-mod, add-mul-mod-self-left}
+use native.Mathlib.Nat.{mod-lt, mod-eq-of-lt, mod-add-div, mod-add-mod, add-mod-mod, add-mod, add-mul-mod-self-left}
 use native.Mathlib.Decide.{decLe, decLt}
 use native.Mathlib.Omega.{arith}
 use lib.Arith.{sub-sub-self}
-use lib.IntN.{ℤ, pos, negsuc, subℕ, _+ℤ_, _*ℤ_, negℤ, natAbs, +ℤ-assoc, +ℤ-comm, *ℤ-comm, *ℤ-zero, zero-*ℤ, negℤ-negℤ}
+use lib.IntN.{ℤ, pos, negsuc, subℕ, _+ℤ_, _*ℤ_, negℤ, natAbs}
 use borrow.Author.Tests.{lt-ltb, le-ltb, le-leb, lt-leb}
 use Rattle.maths.specs.Sum.{sum}
 use Rattle.maths.specs.Integer.{residue, sumℤ, centre, centreBy}
@@ -59,42 +59,6 @@ pub *ℤ-parts : (a b : ℤ) → positivePart (a *ℤ b) + positivePart a * nega
 pub scaled : {x y : ℕ} (c : ℕ) → x ≡ y → c * x ≡ c * y
 scaled c e = ap (λ (x : ℕ). c * x) e
 
--- the product is associative
-pub *ℤ-assoc : (a b c : ℤ) → a *ℤ b *ℤ c ≡ a *ℤ (b *ℤ c)
-*ℤ-assoc a b c = equal-by-parts _ _ (omega (
-  arith,
-  *ℤ-parts (a *ℤ b) c,
-  *ℤ-parts a (b *ℤ c),
-  scaled (positivePart c) (*ℤ-parts a b),
-  scaled (negativePart c) (*ℤ-parts a b),
-  scaled (positivePart a) (*ℤ-parts b c),
-  scaled (negativePart a) (*ℤ-parts b c),
-))
-
--- the product distributes over the sum on its right
-pub *ℤ-+ℤ : (a b c : ℤ) → a *ℤ (b +ℤ c) ≡ a *ℤ b +ℤ a *ℤ c
-*ℤ-+ℤ a b c = equal-by-parts _ _ (omega (
-  arith,
-  *ℤ-parts a (b +ℤ c),
-  *ℤ-parts a b,
-  *ℤ-parts a c,
-  +ℤ-parts (a *ℤ b) (a *ℤ c),
-  scaled (positivePart a) (+ℤ-parts b c),
-  scaled (negativePart a) (+ℤ-parts b c),
-))
-
--- and over the sum on its left
-pub +ℤ-*ℤ : (a b c : ℤ) → (a +ℤ b) *ℤ c ≡ a *ℤ c +ℤ b *ℤ c
-+ℤ-*ℤ a b c = rw (*ℤ-comm (a +ℤ b) c, *ℤ-comm a c, *ℤ-comm b c) (*ℤ-+ℤ c a b)
-
--- a factor's sign moves out of the product
-pub negℤ-*ℤ : (a b : ℤ) → negℤ a *ℤ b ≡ negℤ (a *ℤ b)
-negℤ-*ℤ (pos zero) b = rw zero-*ℤ
-negℤ-*ℤ (pos (suc m)) (pos n) = refl
-negℤ-*ℤ (pos (suc m)) (negsuc n) = sym (negℤ-negℤ (pos (suc m * suc n)))
-negℤ-*ℤ (negsuc m) (pos n) = sym (negℤ-negℤ (pos (suc m * n)))
-negℤ-*ℤ (negsuc m) (negsuc n) = refl
-
 -- the size of a number is the sum of its parts
 natAbs-parts : (a : ℤ) → natAbs a ≡ positivePart a + negativePart a
 natAbs-parts (pos n) = omega arith
@@ -119,12 +83,6 @@ natAbs-*ℤ (pos m) (negsuc n) = natAbs-negℤ (pos (m * suc n))
 natAbs-*ℤ (negsuc m) (pos n) = natAbs-negℤ (pos (suc m * n))
 natAbs-*ℤ (negsuc m) (negsuc n) = refl
 
--- the size of a finite sum is at most the sum of the sizes
-pub natAbs-sumℤ : (n : ℕ) (f : ℕ → ℤ) → natAbs (sumℤ n f) ≤ sum n (λ i. natAbs (f i))
-unfolding sum sumℤ
-natAbs-sumℤ zero f = omega arith
-natAbs-sumℤ (suc n) f = omega (arith, natAbs-+ℤ (sumℤ n f) (f n), natAbs-sumℤ n f)
-
 -- no term
 pub sumℤ-none : (f : ℕ → ℤ) → sumℤ 0 f ≡ pos 0
 unfolding sumℤ
@@ -140,38 +98,6 @@ pub sumℤ-cong : (n : ℕ) (f g : ℕ → ℤ) → ((i : ℕ) → i < n → f i
 unfolding sumℤ
 sumℤ-cong zero f g e = refl
 sumℤ-cong (suc n) f g e = rw (sumℤ-cong n f g (λ i h. e i (omega arith)), e n (omega arith))
-
--- the sum of zeros
-pub sumℤ-zero : (n : ℕ) (f : ℕ → ℤ) → ((i : ℕ) → i < n → f i ≡ pos 0) → sumℤ n f ≡ pos 0
-unfolding sumℤ
-sumℤ-zero zero f e = refl
-sumℤ-zero (suc n) f e = rw (sumℤ-zero n f (λ i h. e i (omega arith)), e n (omega arith))
-
--- the middle two of four terms change places
-+ℤ-middle : (a b c d : ℤ) → a +ℤ b +ℤ (c +ℤ d) ≡ a +ℤ c +ℤ (b +ℤ d)
-+ℤ-middle a b c d = simp (+ℤ-assoc, ← (+ℤ-assoc b c d), +ℤ-comm b c)
-
--- the sum of f + g
-pub sumℤ-add : (n : ℕ) (f g : ℕ → ℤ) → sumℤ n (λ i. f i +ℤ g i) ≡ sumℤ n f +ℤ sumℤ n g
-unfolding sumℤ
-sumℤ-add zero f g = refl
-sumℤ-add (suc n) f g = rw (sumℤ-add n f g) (+ℤ-middle (sumℤ n f) (sumℤ n g) (f n) (g n))
-
--- a constant factor on the left
-pub sumℤ-mul-left : (n : ℕ) (c : ℤ) (f : ℕ → ℤ) → sumℤ n (λ i. c *ℤ f i) ≡ c *ℤ sumℤ n f
-unfolding sumℤ
-sumℤ-mul-left zero c f = sym (*ℤ-zero c)
-sumℤ-mul-left (suc n) c f = rw (sumℤ-mul-left n c f, *ℤ-+ℤ)
-
--- a constant factor on the right
-pub sumℤ-mul-right : (n : ℕ) (c : ℤ) (f : ℕ → ℤ) → sumℤ n (λ i. f i *ℤ c) ≡ sumℤ n f *ℤ c
-sumℤ-mul-right n c f = sumℤ-cong n _ _ (λ i h. *ℤ-comm (f i) c) ∙ sumℤ-mul-left n c f ∙ *ℤ-comm c (sumℤ n f)
-
--- two sums change places
-pub sumℤ-swap : (m n : ℕ) (f : ℕ → ℕ → ℤ) → sumℤ m (λ i. sumℤ n (λ j. f i j)) ≡ sumℤ n (λ j. sumℤ m (λ i. f i j))
-unfolding sumℤ
-sumℤ-swap zero n f = sym (sumℤ-zero n _ (λ j l. refl))
-sumℤ-swap (suc m) n f = rw (sumℤ-swap m n f) (sym (sumℤ-add n (λ j. sumℤ m (λ i. f i j)) (f m)))
 
 -- numbers that are equal but for multiples of q leave the same remainder
 same-remainder : (q x c y d : ℕ) → x + q * c ≡ y + q * d → x % q ≡ y % q
@@ -237,10 +163,6 @@ residue-mod q z h = mod-eq-of-lt (residue-lt q z h)
 -- the residue of a sum with a natural number
 pub residue-+ℤ-pos : (q : ℕ) (z : ℤ) (n : ℕ) → 0 < q → residue q (z +ℤ pos n) ≡ (residue q z + n) % q
 residue-+ℤ-pos q z n h = rw (residue-+ℤ q z (pos n), residue-pos, add-mod-mod)
-
--- adding a multiple of q changes no residue
-pub residue-multiple : (q : ℕ) (z k : ℤ) → 0 < q → residue q (z +ℤ pos q *ℤ k) ≡ residue q z
-residue-multiple q z k h = rw (residue-+ℤ q z (pos q *ℤ k), residue-*ℤ q (pos q) k, residue-pos, mod-self, zero-mul, zero-mod, add-zero) (residue-mod q z h)
 
 -- the residue of a finite sum
 pub residue-sumℤ : (q n : ℕ) (f : ℕ → ℤ) → 0 < q → residue q (sumℤ n f) ≡ sum n (λ i. residue q (f i)) % q

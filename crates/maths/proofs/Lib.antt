@@ -8,8 +8,10 @@ pub mod Root
 pub mod PowerTable
 pub mod Convolution
 pub mod Product
+pub mod Cancelling
 pub mod Split
 pub mod Radix
 pub mod Transform
 pub mod Integer
+pub mod Reverse
 pub mod Rounding

@@ -1,10 +1,10 @@
 -- Laws of powers, and the geometric sum.
 -- Assumes nothing.
 use mathlib.Core.Path.{_≡_}
-use Prim.Native.Nat.{ℕ, zero, suc, _+_, _*_, _^_}
-use native.Mathlib.Nat.{pow-zero, pow-suc, mul-zero, mul-suc}
+use Prim.Native.Nat.{ℕ, zero, suc, _+_, _*_, _%_, _^_, _≤_, _<_}
+use native.Mathlib.Nat.{pow-zero, pow-suc, mul-zero, mul-suc, one-mul, mod-eq-of-lt}
 use native.Mathlib.Omega.{arith}
-use lib.Pow.{pow-add}
+use lib.Pow.{pow-add, pow-pos, pow-mono}
 use Rattle.maths.specs.Sum.{sum}
 
 -- a power of a power
@@ -27,3 +27,16 @@ pub geometric : (x D : ℕ) → x * sum D (λ m. x ^ m) + 1 ≡ sum D (λ m. x ^
 unfolding sum
 geometric x zero = simp (mul-zero, pow-zero)
 geometric x (suc D) = omega (arith, geometric x D, pow-suc x D)
+
+module _ (bits : ℕ) (h : bits ≤ 21) where
+  -- 2^bits is small
+  power-most : 2 ^ bits ≤ 2097152
+  power-most = pow-mono h
+
+  -- a 1 shifted by so many bits does not leave a word of 32 bits
+  pub shifted : 1 * 2 ^ bits % 4294967296 ≡ 2 ^ bits
+  shifted = rw one-mul (mod-eq-of-lt (omega (arith, power-most)))
+
+  -- and is not zero
+  pub shifted-some : 0 < 1 * 2 ^ bits % 4294967296
+  shifted-some = rw shifted (pow-pos bits)

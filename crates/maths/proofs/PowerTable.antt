@@ -1,11 +1,11 @@
--- Tables of powers of a root: a table that passes the test holds the powers, and its root has the order of its size.
+-- Tables of powers of a root: a table that passes the test of recurrence holds the powers; a root that passes the test of order has that order.
 -- Assumes nothing.
 use mathlib.Core.Path.{_≡_, refl, sym, ap, _∙_}
 use mathlib.Core.Logic.{_≢_}
 use mathlib.Core.Bool.{Bool, true, false, not, _&&_}
 use mathlib.Core.List.{List, [], _∷_}
 use Prim.Native.Nat.{ℕ, zero, suc, _+_, _-_, _*_, _/_, _%_, _^_, _≤_, _<_}
-use native.Mathlib.Nat.{pow-zero, pow-suc, pow-succ', one-mul, mod-eq-of-lt, le-of-suc-le-suc, le-mul-of-pos-right, sub-add-cancel}
+use native.Mathlib.Nat.{pow-zero, pow-suc, pow-succ', one-mul, mul-one, mod-eq-of-lt, mod-lt, le-of-suc-le-suc, le-mul-of-pos-right, sub-add-cancel}
 use native.Mathlib.Omega.{arith}
 use borrow.Author.Tests.{eqb-true, eqb-false, not-true}
 use lib.Dec.{eqb}
@@ -13,7 +13,7 @@ use lib.ListN.{length, getD}
 use Rattle.maths.specs.Vector.{at}
 use Rattle.maths.specs.Congruence.{Mod}
 use Rattle.maths.specs.Prime.{Prime}
-use Rattle.maths.specs.Root.{RootOfOrder, powerTable, inverseRoot, inverseSize, continues, isPowerTable}
+use Rattle.maths.specs.Root.{RootOfOrder, powerTable, inverseRoot, inverseSize, continues, isPowerTable, firstOne, hasOrder}
 use Rattle.maths.proofs.Vector.{tabulate-length, tabulate-at, tabulate-unique}
 use Rattle.maths.proofs.Congruence.{mod-eq, mod-trans, mod-mul, mod-refl, mod-remainder, mod-add-multiple}
 
@@ -41,24 +41,15 @@ shift q w x y k e =
 
 module _ (q w : ℕ) where
   -- an entry of a table that continues from x, by its place
-  continues-at : (x : ℕ) (ys : List ℕ) → continues q w x ys ≡ true → (k : ℕ) → k < length ys → (getD ys k 0 ≡ x * w ^ suc k % q) × (getD ys k 0 ≢ 1)
+  continues-at : (x : ℕ) (ys : List ℕ) → continues q w x ys ≡ true → (k : ℕ) → k < length ys → getD ys k 0 ≡ x * w ^ suc k % q
   unfolding continues
   continues-at x [] e k h = absurd (omega arith)
   continues-at x (y ∷ ys) e zero h =
-      let s = both (eqb y (x * w % q)) (not (eqb y 1) && continues q w y ys) e in
-      (eqb-true y (x * w % q) (s .0) ∙ rw (pow-suc, pow-zero, one-mul), eqb-false y 1 (not-true (eqb y 1) (both (not (eqb y 1)) (continues q w y ys) (s .1) .0)))
+      let s = both (eqb y (x * w % q)) (continues q w y ys) e in
+      eqb-true y (x * w % q) (s .0) ∙ rw (pow-suc, pow-zero, one-mul)
   continues-at x (y ∷ ys) e (suc k) h =
-      let s = both (eqb y (x * w % q)) (not (eqb y 1) && continues q w y ys) e in
-      let r = continues-at y ys (both (not (eqb y 1)) (continues q w y ys) (s .1) .1) k (le-of-suc-le-suc h) in
-      (r .0 ∙ shift q w x y (suc k) (eqb-true y (x * w % q) (s .0)), r .1)
-
-  -- the entry that would follow the last is 1
-  continues-end : (x : ℕ) (ys : List ℕ) → continues q w x ys ≡ true → x * w ^ suc (length ys) % q ≡ 1
-  unfolding continues
-  continues-end x [] e = rw (pow-suc, pow-zero, one-mul) (eqb-true (x * w % q) 1 e)
-  continues-end x (y ∷ ys) e =
-      let s = both (eqb y (x * w % q)) (not (eqb y 1) && continues q w y ys) e in
-      sym (shift q w x y (suc (length ys)) (eqb-true y (x * w % q) (s .0))) ∙ continues-end y ys (both (not (eqb y 1)) (continues q w y ys) (s .1) .1)
+      let s = both (eqb y (x * w % q)) (continues q w y ys) e in
+      continues-at y ys (s .1) k (le-of-suc-le-suc h) ∙ shift q w x y (suc k) (eqb-true y (x * w % q) (s .0))
 
 -- what the test of a table tells: it begins with 1, has D entries and continues from 1
 record Passed (q w D : ℕ) (ys : List ℕ) : Type 0 where
@@ -83,7 +74,7 @@ power-table q w D (y ∷ ys) h e = tabulate-unique D (λ i. w ^ i % q) (y ∷ ys
     entry zero low = rw (passed q w D y ys e .0, pow-zero) (sym (mod-eq-of-lt h))
     entry (suc k) low =
         let p = passed q w D y ys e .1 in
-        continues-at q w 1 ys (p .rest) k (omega (arith, p .size)) .0 ∙ rw one-mul
+        continues-at q w 1 ys (p .rest) k (omega (arith, p .size)) ∙ rw one-mul
 
 -- the inverse of the size, where the size D divides q − 1
 size-inverse : (q D : ℕ) → 0 < D → 0 < q → (q - 1) / D * D ≡ q - 1 → Mod q ((q - (q - 1) / D) * D) 1
@@ -100,29 +91,49 @@ root-inverse q w D some power =
     let product : w * w ^ (D - 1) ≡ w ^ D = sym (pow-succ' w (D - 1)) ∙ ap (λ (n : ℕ). w ^ n) (omega arith) in
     mod-trans (mod-mul (mod-refl w) (mod-remainder q (w ^ (D - 1)))) (rw product power)
 
--- its root has the order D
-pub root-of-table : (q w D : ℕ) (xs : List ℕ) → Prime q → (q - 1) / D * D ≡ q - 1 → isPowerTable q w D xs ≡ true
-    → RootOfOrder q D w
-unfolding isPowerTable inverseRoot inverseSize
-root-of-table q w D [] prime divides e = let z : _≡_ {A = ℕ} 0 1 = cc in absurd (omega arith)
-root-of-table q w D (y ∷ ys) prime divides e =
-    let p = passed q w D y ys e .1 in
-    let one : 1 % q ≡ 1 = mod-eq-of-lt (prime .above) in
-    let last : w ^ D % q ≡ 1 = rw (← p .size) (rw one-mul at (continues-end q w 1 ys (p .rest))) in
-    let some : 0 < D = omega (arith, p .size) in
-    let power : Mod q (w ^ D) 1 = record { same = last ∙ sym one } in
+module _ (q w : ℕ) where
+  -- where n powers from x on are not 1, none of their places is that of a 1
+  first-none : (x n : ℕ) → firstOne q w x n ≡ true → x < q → (k : ℕ) → k < n → x * w ^ k % q ≢ 1
+  unfolding firstOne
+  first-none x zero e low k h = absurd (omega arith)
+  first-none x (suc n) e low zero h =
+      let s = both (not (eqb x 1)) (firstOne q w (x * w % q) n) e in
+      let same : x * w ^ 0 % q ≡ x = rw (pow-zero, mul-one) (mod-eq-of-lt low) in
+      λ one. eqb-false x 1 (not-true (eqb x 1) (s .0)) (sym same ∙ one)
+  first-none x (suc n) e low (suc k) h =
+      let s = both (not (eqb x 1)) (firstOne q w (x * w % q) n) e in
+      λ one. first-none (x * w % q) n (s .1) (mod-lt (x * w) (omega arith)) k (le-of-suc-le-suc h) (shift q w x (x * w % q) k refl ∙ one)
+
+  -- and the power after them is 1
+  first-one : (x n : ℕ) → firstOne q w x n ≡ true → x < q → x * w ^ n % q ≡ 1
+  unfolding firstOne
+  first-one x zero e low = rw (pow-zero, mul-one) (mod-eq-of-lt low) ∙ eqb-true x 1 e
+  first-one x (suc n) e low =
+      let s = both (not (eqb x 1)) (firstOne q w (x * w % q) n) e in
+      sym (shift q w x (x * w % q) n refl) ∙ first-one (x * w % q) n (s .1) (mod-lt (x * w) (omega arith))
+
+-- a root that passes the test has the order D
+pub root-of-order : (q w D : ℕ) → Prime q → (q - 1) / D * D ≡ q - 1 → hasOrder q w D ≡ true → RootOfOrder q D w
+unfolding hasOrder inverseRoot inverseSize
+root-of-order q w zero prime divides e = let z : _≡_ {A = ℕ} 0 1 = cc in absurd (omega arith)
+root-of-order q w (suc n) prime divides e =
+    let above = prime .above in
+    let one : 1 % q ≡ 1 = mod-eq-of-lt above in
+    let low : w % q < q = mod-lt w (omega arith) in
+    let last : w ^ suc n % q ≡ 1 = sym (from-first n) ∙ first-one q w (w % q) n e low in
+    let power : Mod q (w ^ suc n) 1 = record { same = last ∙ sym one } in
     record {
       prime = prime;
-      some = some;
+      some = omega arith;
       power = power;
-      order = λ t low high h. differs t low high (h .same ∙ one);
-      root-inverse = root-inverse q w D some power;
-      size-inverse = size-inverse q D some (omega (arith, prime .above)) divides;
+      order = λ t some high h. differs t some high (h .same ∙ one);
+      root-inverse = root-inverse q w (suc n) (omega arith) power;
+      size-inverse = size-inverse q (suc n) (omega arith) (omega arith) divides;
     }
   where
-    differs : (t : ℕ) → 0 < t → t < D → w ^ t % q ≡ 1 → ⊥
-    differs zero low high h = absurd (omega arith)
-    differs (suc k) low high h =
-        let p = passed q w D y ys e .1 in
-        let c = continues-at q w 1 ys (p .rest) k (omega (arith, p .size)) in
-        c .1 (c .0 ∙ rw one-mul h)
+    from-first : (k : ℕ) → w % q * w ^ k % q ≡ w ^ suc k % q
+    from-first k = shift q w 1 (w % q) k (ap (λ (x : ℕ). x % q) (sym (one-mul w))) ∙ ap (λ (x : ℕ). x % q) (one-mul (w ^ suc k))
+
+    differs : (t : ℕ) → 0 < t → t < suc n → w ^ t % q ≡ 1 → ⊥
+    differs zero some high h = absurd (omega arith)
+    differs (suc k) some high h = first-none q w (w % q) n e (mod-lt w (omega (arith, prime .above))) k (omega arith) (from-first k ∙ h)

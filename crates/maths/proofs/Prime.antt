@@ -79,7 +79,3 @@ zero-or-cancel {q = suc k} {a} {b} p c h =
       | inl none ↦ inl none
       | inr same ↦ inr (mod-add-cancel (k * b) (mod-trans same (mod-sym (mod-trans (mod-eq (omega arith)) (mod-multiple (suc k) b)))))
     ]
-
--- a factor that is not 0 modulo a prime cancels
-pub prime-cancel : {q a b : ℕ} → Prime q → (c : ℕ) → (Mod q c 0 → ⊥) → Mod q (c * a) (c * b) → Mod q a b
-prime-cancel p c some h = elim (zero-or-cancel p c h) [ inl none ↦ absurd (some none) | inr same ↦ same ]

@@ -1,9 +1,9 @@
--- Laws of products of polynomials: the middle product as a correlation and by transforms, and associativity.
+-- Laws of products of polynomials: the middle product as a correlation, and associativity of the correlation.
 -- Assumes nothing.
 use mathlib.Core.Path.{_≡_, sym, ap, _∙_}
 use mathlib.Core.List.{List}
 use Prim.Native.Nat.{ℕ, suc, _+_, _-_, _*_, _%_, _≤_, _<_}
-use native.Mathlib.Nat.{zero-mul, mul-zero, mul-assoc, mul-comm, zero-add}
+use native.Mathlib.Nat.{zero-mul, mul-zero, mul-assoc}
 use native.Mathlib.Decide.{decLe}
 use native.Mathlib.Omega.{arith}
 use lib.ListN.{length, getD, take}
@@ -11,13 +11,10 @@ use lib.Seq.{getD-take}
 use Rattle.maths.specs.Vector.{at, tabulate}
 use Rattle.maths.specs.Sum.{sum}
 use Rattle.maths.specs.Congruence.{Mod}
-use Rattle.maths.specs.Root.{Root}
 use Rattle.maths.specs.Product.{product, middleProduct, correlation}
-use Rattle.maths.specs.Transform.{transformAt}
 use Rattle.maths.proofs.Vector.{at-past, tabulate-length, tabulate-at, tabulate-cong}
 use Rattle.maths.proofs.Sum.{sum-cong, sum-zero, sum-reverse, sum-pad, sum-mul-left, sum-mul-right, sum-triangle}
-use Rattle.maths.proofs.Congruence.{mod-refl, mod-eq, mod-sym, mod-trans, mod-mul, mod-sum, mod-remainder}
-use Rattle.maths.proofs.Convolution.{correlation-by-transforms}
+use Rattle.maths.proofs.Congruence.{mod-mul, mod-sum}
 
 -- the numbers of a in reverse order
 abbrev pub reversed : List ℕ → ℕ → ℕ
@@ -31,16 +28,6 @@ productAt x y p = sum (suc p) (λ j. x j * y (p - j))
 pub correlation-mod : {q : ℕ} (n : ℕ) (x u y z : ℕ → ℕ) (i : ℕ) → ((j : ℕ) → j < n → Mod q (x j) (u j)) → ((j : ℕ) → j < n → Mod q (y (i + j)) (z (i + j))) → Mod q (correlation n x y i) (correlation n u z i)
 unfolding correlation
 correlation-mod n x u y z i first second = mod-sum n _ _ (λ j h. mod-mul (first j h) (second j h))
-
--- the product does not depend on the order of its factors
-pub product-commutes : (a b : List ℕ) (p : ℕ) → product a b p ≡ product b a p
-unfolding product
-product-commutes a b p =
-    sum-reverse (suc p) _
-    ∙ sum-cong (suc p) _ _ (λ j h.
-    let first : suc p - 1 - j ≡ p - j = omega arith in
-    let second : p - (p - j) ≡ j = omega arith in
-    rw (first, second, mul-comm (at a (p - j))))
 
 -- the product of vectors of n and m places is 0 past place n + m − 2
 pub product-end : (n m : ℕ) (x y : ℕ → ℕ) → ((j : ℕ) → n ≤ j → x j ≡ 0) → ((j : ℕ) → m ≤ j → y j ≡ 0) → (p : ℕ) → n + m ≤ suc p → productAt x y p ≡ 0
@@ -59,11 +46,6 @@ product-past a b p h = product-end (length a) (length b) (at a) (at b) (at-past 
 pub product-places : (a b : List ℕ) (i : ℕ) → 0 < length a → product a b (length a - 1 + i) ≡ sum (length a) (λ j. at a j * at b (length a - 1 + i - j))
 unfolding product
 product-places a b i some = sum-pad (length a) (suc (length a - 1 + i)) _ (omega arith) (λ j low high. rw (at-past a j low, zero-mul))
-
--- the same as a correlation with b read backwards
-product-backwards : (a b : List ℕ) (i : ℕ) → 0 < length a → product a b (length a - 1 + i) ≡ correlation (length a) (at a) (λ l. at b (length a - 1 + i - l)) 0
-unfolding correlation
-product-backwards a b i some = simp zero-add (product-places a b i some)
 
 -- such a place is a correlation with the numbers of a reversed
 pub product-correlation : (a b : List ℕ) (i : ℕ) → 0 < length a → product a b (length a - 1 + i) ≡ correlation (length a) (reversed a) (at b) i
@@ -84,10 +66,6 @@ middleProduct-at q a b d i h = tabulate-at d _ i h
 pub middle-correlation : (q : ℕ) (a b : List ℕ) (d : ℕ) → 0 < length a → middleProduct q a b d ≡ tabulate d (λ i. correlation (length a) (reversed a) (at b) i % q)
 unfolding middleProduct
 middle-correlation q a b d some = tabulate-cong d _ _ (λ i h. rw (product-correlation a b i some))
-
--- the middle product by transforms (003 algorithm 35)
-pub middle-by-transforms : {q D w v e : ℕ} → Root q D w v e → (a b : List ℕ) (d : ℕ) → 0 < length a → d + length a ≤ D + 1 → tabulate d (λ i. e * transformAt D w (λ m. transformAt (length a) w (reversed a) m * transformAt D v (at b) m) i % q) ≡ middleProduct q a b d
-middle-by-transforms {q} r a b d some fits = rw (middle-correlation q a b d some) (tabulate-cong d _ _ (λ i h. correlation-by-transforms r (length a) (reversed a) (at b) i (omega arith) .same))
 
 -- x_j · y_k · z_(i + j + k), summed over the pairs (j, p − j): place p of the product times z
 product-term : (x y z : ℕ → ℕ) (i p : ℕ) → productAt x y p * z (i + p) ≡ sum (suc p) (λ j. x j * (y (p - j) * z (i + j + (p - j))))
@@ -116,29 +94,6 @@ module _ (n m : ℕ) (x y z : ℕ → ℕ) (i : ℕ) (x-end : (j : ℕ) → n �
   pub correlation-assoc : (N : ℕ) → n + m ≤ N + 1 → correlation n x (correlation m y z) i ≡ correlation N (productAt x y) z i
   unfolding correlation
   correlation-assoc N fits = correlation-room (suc N) (omega arith) ∙ sum-pad N (suc N) _ (omega arith) (λ p low high. rw (product-end n m x y x-end y-end p (omega arith), zero-mul))
-
--- the same for lists: nothing is reversed
-pub list-correlation-assoc : (r a : List ℕ) (s : ℕ → ℕ) (i : ℕ) → correlation (length r) (at r) (correlation (length a) (at a) s) i ≡ correlation (length r + length a - 1) (product r a) s i
-unfolding product
-list-correlation-assoc r a s i = correlation-assoc (length r) (length a) (at r) (at a) s i (at-past r) (at-past a) (length r + length a - 1) (omega arith)
-
--- place k of a middle product as value j of the correlation with s read backwards from place t
-middle-place : (q d : ℕ) (a s : List ℕ) (t k j : ℕ) → 0 < length a → k < d → length a - 1 + k + j ≡ t → Mod q (at (middleProduct q a s d) k) (correlation (length a) (at a) (λ l. at s (t - l)) j)
-unfolding correlation
-middle-place q d a s t k j some h e =
-    let place : (l : ℕ) → length a - 1 + k - l ≡ t - (j + l) = λ l. omega arith in
-    rw (middleProduct-at q a s d k h) (mod-trans (mod-remainder q _) (mod-eq (product-places a s k some ∙ sum-cong (length a) _ _ (λ l m. rw place))))
-
--- the middle product with a middle product is the middle product with the product, c, modulo q
-pub middle-assoc : (q : ℕ) (r a s c : List ℕ) (d : ℕ) → 0 < length r → 0 < length a → length c ≡ length r + length a - 1 → ((p : ℕ) → p < length c → Mod q (at c p) (product r a p)) → middleProduct q r (middleProduct q a s (d + length r - 1)) d ≡ middleProduct q c s d
-unfolding middleProduct
-middle-assoc q r a s c d some-r some-a size same =
-    tabulate-cong d _ _ (λ i h.
-    let inner : List ℕ = middleProduct q a s (d + length r - 1) in
-    let z : ℕ → ℕ = λ l. at s (length c - 1 + i - l) in
-    let outer : Mod q (product r inner (length r - 1 + i)) (correlation (length r) (at r) (correlation (length a) (at a) z) 0) = rw (product-backwards r inner i some-r) (correlation-mod (length r) _ _ _ _ 0 (λ j l. mod-refl _) (λ j l. middle-place q (d + length r - 1) a s (length c - 1 + i) (length r - 1 + i - (0 + j)) (0 + j) some-a (omega arith) (omega arith))) in
-    let whole : Mod q (correlation (length c) (product r a) z 0) (product c s (length c - 1 + i)) = rw (product-backwards c s i (omega arith)) (correlation-mod (length c) _ _ z z 0 (λ p l. mod-sym (same p l)) (λ j l. mod-refl _)) in
-    mod-trans outer (mod-trans (mod-eq (list-correlation-assoc r a z 0)) (rw (← size) whole)) .same)
 
 -- a correlation reads only the first places of the second vector
 pub correlation-front : (n m j : ℕ) (x : ℕ → ℕ) (ys : List ℕ) → j + n ≤ m → correlation n x (at ys) j ≡ correlation n x (at (take m ys)) j

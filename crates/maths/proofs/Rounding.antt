@@ -10,6 +10,7 @@ use lib.IntN.{ℤ, pos, negsuc, _+ℤ_, _*ℤ_, negℤ, natAbs}
 use borrow.Author.Tests.{le-leb, lt-leb}
 use Rattle.maths.specs.Integer.{residue}
 use Rattle.maths.specs.Rounding.{floorBit, nearest, centredBit, thresholdBit}
+use Rattle.maths.specs.BitClaim.{BitClaim}
 use Rattle.maths.proofs.Integer.{equal-by-parts, +ℤ-parts, negℤ-parts, *ℤ-parts, scaled, natAbs-negℤ, residue-lt, residue-low, residue-high, centre-low, centre-high}
 
 -- nearest h z is floor((2z + h) / 2h): 2z + h is 2h · nearest h z and a remainder from 0 to 2h − 1
@@ -145,25 +146,25 @@ module _ (h q m w : ℕ) (N : ℤ) (odd : q ≡ 2 * h + 1) (bit : m ≤ 1) (nois
       (rw noisy (small-remainder q (residue q N + h * m) (omega (arith, residue-lt q N (omega arith), mul-le-mul-left h bit))))
 
   -- the bit of the thresholds is m while 2|N| < h
-  pub thresholdBit-reads : 2 * natAbs N < h → thresholdBit h w ≡ m
+  thresholdBit-reads : 2 * natAbs N < h → thresholdBit h w ≡ m
   thresholdBit-reads l = sym (thresholdBit-only h w m (noisy-reading (omega arith) .0 l .0))
 
   -- and the other bit while h + 2 < 2|N| < 3h
-  pub thresholdBit-misreads : h + 2 < 2 * natAbs N → 2 * natAbs N < 3 * h → thresholdBit h w ≡ 1 - m
+  thresholdBit-misreads : h + 2 < 2 * natAbs N → 2 * natAbs N < 3 * h → thresholdBit h w ≡ 1 - m
   thresholdBit-misreads l u = sym (thresholdBit-only h w (1 - m) (noisy-reading (omega arith) .1 l u .0))
 
-  -- 01's formula gives m while 2|N| < h
-  pub floorBit-reads : 2 * natAbs N < h → floorBit h w ≡ m
-  floorBit-reads l = floorBit-threshold h w (omega arith) below (noisy-reading (omega arith) .0 l .1) ∙ thresholdBit-reads l
+  -- 01's formula reads the bit by its noise
+  pub floorBit-claim : BitClaim h N m (floorBit h w)
+  floorBit-claim =
+      record {
+        reads = λ l. floorBit-threshold h w (omega arith) below (noisy-reading (omega arith) .0 l .1) ∙ thresholdBit-reads l;
+        misreads = λ l u. floorBit-threshold h w (omega arith) below (noisy-reading (omega arith) .1 l u .1) ∙ thresholdBit-misreads l u;
+      }
 
-  -- and the other bit while h + 2 < 2|N| < 3h
-  pub floorBit-misreads : h + 2 < 2 * natAbs N → 2 * natAbs N < 3 * h → floorBit h w ≡ 1 - m
-  floorBit-misreads l u = floorBit-threshold h w (omega arith) below (noisy-reading (omega arith) .1 l u .1) ∙ thresholdBit-misreads l u
-
-  -- 003's rounding gives m while 2|N| < h, for an even h
-  pub centredBit-reads : (g : ℕ) → h ≡ 2 * g → 2 * natAbs N < h → centredBit h w ≡ m
-  centredBit-reads g even l = centredBit-threshold h g w (omega arith) even below ∙ thresholdBit-reads l
-
-  -- and the other bit while h + 2 < 2|N| < 3h, for an even h
-  pub centredBit-misreads : (g : ℕ) → h ≡ 2 * g → h + 2 < 2 * natAbs N → 2 * natAbs N < 3 * h → centredBit h w ≡ 1 - m
-  centredBit-misreads g even l u = centredBit-threshold h g w (omega arith) even below ∙ thresholdBit-misreads l u
+  -- and so does 003's rounding, for an even h
+  pub centredBit-claim : (g : ℕ) → h ≡ 2 * g → BitClaim h N m (centredBit h w)
+  centredBit-claim g even =
+      record {
+        reads = λ l. centredBit-threshold h g w (omega arith) even below ∙ thresholdBit-reads l;
+        misreads = λ l u. centredBit-threshold h g w (omega arith) even below ∙ thresholdBit-misreads l u;
+      }

@@ -31,11 +31,6 @@ pub transform-at : (q D w : ℕ) (xs : List ℕ) (i : ℕ) → i < D → at (tra
 unfolding transform
 transform-at q D w xs i h = tabulate-at D _ i h
 
--- the length of a scaled transform
-pub scaledTransform-length : (q D w e : ℕ) (xs : List ℕ) → length (scaledTransform q D w e xs) ≡ D
-unfolding scaledTransform
-scaledTransform-length q D w e xs = tabulate-length D _
-
 -- value i of a scaled transform
 pub scaledTransform-at : (q D w e : ℕ) (xs : List ℕ) (i : ℕ) → i < D → at (scaledTransform q D w e xs) i ≡ e * transformAt D w (at xs) i % q
 unfolding scaledTransform

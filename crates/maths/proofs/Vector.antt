@@ -1,14 +1,13 @@
 -- Laws of lists given by a formula.
 -- Assumes nothing.
-use mathlib.Core.Path.{_≡_, refl, sym, ap, _∙_}
+use mathlib.Core.Path.{_≡_, refl, sym, _∙_}
 use mathlib.Core.List.{List, [], _∷_, _++_, map, append-assoc, append-nil}
 use mathlib.Core.Logic.{inl, inr}
 use Prim.Native.Nat.{ℕ, zero, suc, _+_, _-_, _≤_, _<_}
 use native.Mathlib.Nat.{eq-or-lt-of-le, le-of-suc-le-suc, add-zero, add-suc, add-sub-of-le}
-use native.Mathlib.Numerals.{add-one}
 use native.Mathlib.Omega.{arith}
-use lib.ListN.{length, getD, take, drop, replicate, length-append, length-map, length-replicate, length-drop, getD-replicate, List·getD-append, List·getD-eq-default}
-use lib.Seq.{ext-getD, getD-at, take-at, getD-drop}
+use lib.ListN.{length, getD, take, replicate, length-append, length-replicate, getD-replicate, List·getD-append, List·getD-eq-default}
+use lib.Seq.{ext-getD, getD-at, take-at}
 use Rattle.maths.specs.Vector.{at, tabulate}
 
 -- the length
@@ -53,15 +52,6 @@ tabulate-unique n f xs size value = equal-by-place n xs (tabulate n f) size (tab
 pub tabulate-self : (n : ℕ) (xs : List ℕ) → length xs ≡ n → xs ≡ tabulate n (at xs)
 tabulate-self n xs size = tabulate-unique n (at xs) xs size (λ i h. refl)
 
--- one more place
-pub tabulate-last : (n : ℕ) (f : ℕ → ℕ) → tabulate (suc n) f ≡ tabulate n f ++ (f n ∷ [])
-unfolding tabulate
-tabulate-last n f = refl
-
--- one more place, for n + 1
-pub tabulate-one-more : (n : ℕ) (f : ℕ → ℕ) → tabulate (n + 1) f ≡ tabulate n f ++ (f n ∷ [])
-tabulate-one-more n f = rw (add-one, tabulate-last)
-
 -- the first m places, then n more
 pub tabulate-append : (m n : ℕ) (f : ℕ → ℕ) → tabulate (m + n) f ≡ tabulate m f ++ tabulate n (λ i. f (m + i))
 unfolding tabulate
@@ -72,19 +62,11 @@ tabulate-append m (suc n) f = rw (add-suc, tabulate-append m n f, append-assoc)
 pub tabulate-take : (m n : ℕ) (f : ℕ → ℕ) → m ≤ n → take m (tabulate n f) ≡ tabulate m f
 tabulate-take m n f h = rw (← add-sub-of-le h, tabulate-append) (take-at (tabulate m f) _ m (tabulate-length m f))
 
--- what follows the first m of n places
-pub tabulate-drop : (m n : ℕ) (f : ℕ → ℕ) → drop m (tabulate n f) ≡ tabulate (n - m) (λ i. f (m + i))
-tabulate-drop m n f = tabulate-unique (n - m) _ _ (rw (length-drop, tabulate-length)) (λ i h. rw getD-drop (tabulate-at n f (m + i) (omega arith)))
-
 -- place i after a function is applied to each number
 pub map-at : (g : ℕ → ℕ) (xs : List ℕ) (i : ℕ) → i < length xs → getD (map g xs) i 0 ≡ g (getD xs i 0)
 map-at g [] i h = omega arith
 map-at g (x ∷ xs) zero h = refl
 map-at g (x ∷ xs) (suc i) h = map-at g xs i (le-of-suc-le-suc h)
-
--- a function applied to each number
-pub tabulate-map : (g : ℕ → ℕ) (n : ℕ) (f : ℕ → ℕ) → map g (tabulate n f) ≡ tabulate n (λ i. g (f i))
-tabulate-map g n f = tabulate-unique n _ _ (rw (length-map, tabulate-length)) (λ i h. map-at g (tabulate n f) i (rw tabulate-length h) ∙ ap g (tabulate-at n f i h))
 
 -- a constant formula
 pub tabulate-const : (n c : ℕ) → tabulate n (λ i. c) ≡ replicate n c

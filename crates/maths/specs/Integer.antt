@@ -1,10 +1,12 @@
--- Whole numbers with a sign: their residues modulo q, their sums, and the centred residue.
+-- Whole numbers with a sign: their residues modulo q, their sums, products of polynomials of them, and the centred residue.
 -- Assumes nothing.
 use mathlib.Core.Path.{_≡_, refl}
 use mathlib.Core.Bool.{Bool, true, false}
+use mathlib.Core.List.{List, [], _∷_}
 use Prim.Native.Nat.{ℕ, zero, suc, _+_, _-_, _*_, _%_}
 use lib.Dec.{leb}
-use lib.IntN.{ℤ, pos, negsuc, _+ℤ_, _-ℤ_, negℤ}
+use lib.IntN.{ℤ, pos, negsuc, _+ℤ_, _-ℤ_, _*ℤ_, negℤ}
+use lib.ListN.{getD}
 
 -- the residue of a whole number modulo q, from 0 to q − 1
 unfoldable pub residue : ℕ → ℤ → ℕ
@@ -36,6 +38,28 @@ sumℤ-example = refl
 sumℤ-example₂ : sumℤ 0 (λ i. pos 5) ≡ pos 0
 unfolding sumℤ
 sumℤ-example₂ = refl
+
+-- the coefficient at place l of the product of two polynomials of whole numbers
+unfoldable pub productℤ : List ℤ → List ℤ → ℕ → ℤ
+productℤ x y l = sumℤ (suc l) (λ j. getD x j (pos 0) *ℤ getD y (l - j) (pos 0))
+
+-- the correlation of x with y at place j, signs kept: the sum of x_l · y_(j + l) over the n places of x (003 writes Rev(x) ⊙ y for it)
+unfoldable pub correlationℤ : ℕ → List ℤ → List ℤ → ℕ → ℤ
+correlationℤ n x y j = sumℤ n (λ l. getD x l (pos 0) *ℤ getD y (j + l) (pos 0))
+
+-- noise 12 is not noise −5, though both have the same residue modulo 17: it is not reduced before its size is judged
+productℤ-example : productℤ (pos 3 ∷ []) (pos 4 ∷ []) 0 ≡ pos 12
+unfolding productℤ sumℤ
+productℤ-example = refl
+
+productℤ-example₂ : residue 17 (productℤ (pos 3 ∷ []) (pos 4 ∷ []) 0) ≡ residue 17 (negsuc 4)
+unfolding residue productℤ sumℤ
+productℤ-example₂ = refl
+
+-- (1, −2) with (1, 0, −1) at place 1: 1 · 0 + (−2) · (−1)
+correlationℤ-example : correlationℤ 2 (pos 1 ∷ negsuc 1 ∷ []) (pos 1 ∷ pos 0 ∷ negsuc 0 ∷ []) 1 ≡ pos 2
+unfolding correlationℤ sumℤ
+correlationℤ-example = refl
 
 unfoldable pub centreBy : Bool → ℕ → ℕ → ℤ
 centreBy true h w = pos w

@@ -8,3 +8,4 @@ pub mod Prime
 pub mod Root
 pub mod Integer
 pub mod Rounding
+pub mod BitClaim

@@ -34,20 +34,25 @@ inverseSize q D = q - (q - 1) / D
 abbrev pub RootOfOrder : ℕ → ℕ → ℕ → Type 0
 RootOfOrder q D w = Root q D w (inverseRoot q D w) (inverseSize q D)
 
--- each entry is the one before it, at first x, times w modulo q; none is 1, and the one that would follow the last is 1
+-- each entry is the one before it, at first x, times w modulo q
 unfoldable pub continues : ℕ → ℕ → ℕ → List ℕ → Bool
-continues q w x [] = eqb (x * w % q) 1
-continues q w x (y ∷ ys) = eqb y (x * w % q) && (not (eqb y 1) && continues q w y ys)
+continues q w x [] = true
+continues q w x (y ∷ ys) = eqb y (x * w % q) && continues q w y ys
 
--- the test of a whole table of powers, recurrence and order: it has D entries, begins with 1 and continues by w
+-- the recurrence of a whole table of powers: it has D entries, begins with 1 and continues by w
 unfoldable pub isPowerTable : ℕ → ℕ → ℕ → List ℕ → Bool
 isPowerTable q w D [] = false
 isPowerTable q w D (y ∷ ys) = eqb y 1 && (eqb (suc (length ys)) D && continues q w y ys)
 
--- the powers of w from x on, each from the one before
-unfoldable pub powersFrom : ℕ → ℕ → ℕ → ℕ → List ℕ
-powersFrom q w x zero = []
-powersFrom q w x (suc n) = x ∷ powersFrom q w (x * w % q) n
+-- of the n powers of w from x on, none is 1, and the one after them is 1
+unfoldable pub firstOne : ℕ → ℕ → ℕ → ℕ → Bool
+firstOne q w x zero = eqb x 1
+firstOne q w x (suc n) = not (eqb x 1) && firstOne q w (x * w % q) n
+
+-- the order of a root: of its first powers, w itself first, the one numbered D is the first that is 1
+unfoldable pub hasOrder : ℕ → ℕ → ℕ → Bool
+hasOrder q w zero = false
+hasOrder q w (suc n) = firstOne q w (w % q) n
 
 powerTable-example : powerTable 17 4 4 ≡ 1 ∷ 4 ∷ 16 ∷ 13 ∷ []
 unfolding powerTable tabulate
@@ -56,6 +61,10 @@ powerTable-example = refl
 isPowerTable-example : isPowerTable 17 4 4 (1 ∷ 4 ∷ 16 ∷ 13 ∷ []) ≡ true
 unfolding isPowerTable continues
 isPowerTable-example = refl
+
+hasOrder-example : (hasOrder 17 4 4 ≡ true) × (hasOrder 17 16 4 ≡ false)
+unfolding hasOrder firstOne
+hasOrder-example = (refl, refl)
 
 inverse-example : inverseRoot 17 4 4 ≡ 13
 unfolding inverseRoot

@@ -14,10 +14,6 @@ unfoldable pub tabulate : ℕ → (ℕ → ℕ) → List ℕ
 tabulate zero f = []
 tabulate (suc n) f = tabulate n f ++ (f n ∷ [])
 
--- place i of vector j, where vectors of length n stand one after the other
-abbrev pub block : ℕ → List ℕ → ℕ → ℕ → ℕ
-block n xs j i = at xs (n * j + i)
-
 tabulate-example : tabulate 4 (λ i. 2 * i + 1) ≡ 1 ∷ 3 ∷ 5 ∷ 7 ∷ []
 unfolding tabulate
 tabulate-example = refl

@@ -12,7 +12,7 @@ use lib.Dec.{leb}
 use lib.IntN.{ℤ, pos, _+ℤ_, _*ℤ_, natAbs}
 use lib.ListN.{length, getD, drop, length-map, List·getD-eq-default}
 use Rattle.maths.specs.Vector.{at}
-use Rattle.maths.specs.Integer.{residue, centre}
+use Rattle.maths.specs.Integer.{residue, centre, correlationℤ}
 use Rattle.maths.proofs.Vector.{at-past}
 use Rattle.maths.proofs.Integer.{residue-lt, centre-residue, sumℤ-cong, natAbs-+ℤ}
 use Rattle.calls.specs.Checks.{allOf, below}
@@ -26,14 +26,13 @@ use Rattle.sets.specs.Derived.{halfModulus, multiplierCount}
 use Rattle.sets.proofs.Rules.{rules, byteRules}
 use Rattle.sets.proofs.Tested.{passed, at-each}
 use Rattle.draws.specs.Calls.{inTurn}
-use Rattle.draws.proofs.Bits.{power-most}
-use Rattle.draws.proofs.Positions.{bits-most, turn-length, turn-at}
+use Rattle.draws.proofs.Laws.{power-most, bits-most, turn-length, turn-at}
 use Rattle.draws.specs.Small.{multiplierBits}
 use Rattle.samplers.specs.Seeded.{errorCount, multipliersDrawn, secretCounter}
-use Rattle.samplers.proofs.Values.{errorsDrawn-length, errorsDrawn-most, multipliersDrawn-length, multipliersDrawn-most}
+use Rattle.samplers.proofs.Laws.{errorsDrawn-length, errorsDrawn-most, multipliersDrawn-length, multipliersDrawn-most}
 use Rattle.scheme.specs.Answers.{allBelow}
 use Rattle.scheme.specs.Encryption.{secretSeed, publicKey, errors, sealedNumbers, keyNumbers}
-use Rattle.scheme.specs.Noise.{correlationℤ, productNoise, droppedNoise, noise}
+use Rattle.scheme.specs.Noise.{productNoise, droppedNoise, noise}
 use Rattle.scheme.proofs.Conditions.{set-conditions}
 use Rattle.scheme.proofs.Bytes.{keyNumbers-below, sealedNumbers-below, cipherSecond-at}
 use Rattle.noise.specs.Centred.{Residues, centredTerm, centredCorrelation, centredPart, centredProduct, centredDropped, centredNoise, drawnNoise}

@@ -18,7 +18,7 @@ use Rattle.sets.proofs.Rules.{rules, byteRules}
 use Rattle.draws.specs.Uniform.{Drawn, taken, ended, exhausted}
 use Rattle.samplers.specs.Blocks.{uniform, blocksRead, onto, refusal, uniformAnswer}
 use Rattle.samplers.specs.Seeded.{errorCount, secretDrawn, secretCounter, multipliersDrawn}
-use Rattle.samplers.proofs.Answers.{answer-onto, answer-refusal}
+use Rattle.samplers.proofs.Laws.{answer-onto, answer-refusal}
 use Rattle.scheme.specs.Answers.{workLength, isTaken}
 use Rattle.scheme.specs.Encryption.{errors}
 use Rattle.noise.specs.Centred.{ErrorsHeld, Held}

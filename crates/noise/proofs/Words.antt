@@ -1,11 +1,10 @@
 -- Whole numbers with a sign in a word of 64 bits: sums, products and centred residues that fit.
 -- Assumes nothing.
 use mathlib.Core.Path.{_≡_, ap₂, _∙_}
-use Prim.Native.Nat.{ℕ, _+_, _*_, _%_, _^_, _≤_, _<_}
-use native.Mathlib.Nat.{one-mul, mod-eq-of-lt, mul-le-mul-left}
+use Prim.Native.Nat.{ℕ, _+_, _*_, _^_, _≤_, _<_}
+use native.Mathlib.Nat.{mul-le-mul-left}
 use native.Mathlib.Omega.{arith}
 use lib.IntN.{ℤ, pos, negsuc, _+ℤ_, _-ℤ_, _*ℤ_, negℤ, natAbs, +ℤ-idl}
-use lib.Pow.{pow-pos, pow-mono}
 use mir.Syntax.{w64}
 use mir.Val.{SFits, toZ, ofZ}
 use mir.Facts.{toZ-pos, toZ-ofZ}
@@ -56,16 +55,3 @@ module _ (n : ℕ) (h : n < 2 ^ 32) where
 -- a centred residue is small
 pub centred-small : (half w : ℕ) (z : ℤ) → SFits w64 z → z ≡ centre half w → w < 2 * half + 1 → half < 2 ^ 23 → natAbs (stored z) < 2 ^ 23
 centred-small half w z fits e l h = rw (toZ-ofZ fits, e) (omega (arith, natAbs-centre half w l))
-
-module _ (bits : ℕ) (h : bits ≤ 21) where
-  -- 2^bits is small
-  power-most : 2 ^ bits ≤ 2097152
-  power-most = pow-mono h
-
-  -- the shifted 1 does not leave the width
-  pub shifted : 1 * 2 ^ bits % 4294967296 ≡ 2 ^ bits
-  shifted = rw one-mul (mod-eq-of-lt (omega (arith, power-most)))
-
-  -- and is not zero
-  pub shifted-some : 0 < 1 * 2 ^ bits % 4294967296
-  shifted-some = rw shifted (pow-pos bits)

@@ -5,3 +5,4 @@ pub mod Family
 pub mod KeyLaws
 pub mod MultiplierLaws
 pub mod SealingLaws
+pub mod Laws

@@ -24,11 +24,10 @@ use Rattle.sets.specs.Derived.{transformSize}
 use Rattle.sets.proofs.Rules.{rules}
 use Rattle.sets.proofs.Transforms.{third-size, second-size}
 use Rattle.packing.specs.Digits.{unpack}
-use Rattle.packing.proofs.Digits.{unpack-length}
+use Rattle.packing.proofs.Laws.{unpack-length}
 use Rattle.transformed.specs.Stored.{recovered, recoveredInverse, correlations}
 use Rattle.transformed.specs.Placed.{Placed, Correlated}
-use Rattle.transformed.proofs.Recovered.{recovered-take, recoveredInverse-take}
-use Rattle.transformed.proofs.Vectors.{recoveredInverse-placed}
+use Rattle.transformed.proofs.Laws.{recovered-take, recoveredInverse-take, recoveredInverse-placed}
 use Rattle.scheme.specs.Encryption.{firstBytes, cipherFirst}
 use Rattle.scheme.specs.Answers.{allBelow}
 use Rattle.opening.specs.Opened.{firstCorrelations}

@@ -17,7 +17,7 @@ use Rattle.sets.specs.Table.{setOf}
 use Rattle.sets.specs.Derived.{transformSize}
 use Rattle.transformed.specs.Stored.{rowCount, rootInverse, sizeInverse, recoveredInverse}
 use Rattle.transformed.specs.Placed.{Placed}
-use Rattle.transformed.proofs.Sizes.{size-rows, some-modulus}
+use Rattle.transformed.proofs.Laws.{size-rows, some-modulus}
 use Rattle.opening.specs.Opened.{reduced}
 
 module _ (q : ℕ) (xs : List ℕ) where

@@ -12,9 +12,9 @@ use Rattle.sets.specs.Derived.{transformSize}
 use Rattle.draws.specs.Uniform.{Drawn, taken, ended, exhausted, numbers}
 use Rattle.samplers.specs.Seeded.{secretDrawn}
 use Rattle.samplers.specs.Blocks.{uniform}
-use Rattle.samplers.proofs.Uniform.{uniform-length, uniform-below}
+use Rattle.samplers.proofs.Laws.{uniform-length, uniform-below}
 use Rattle.transformed.specs.Placed.{Placed}
-use Rattle.transformed.proofs.Sizes.{some-modulus}
+use Rattle.transformed.proofs.Laws.{some-modulus}
 use Rattle.scheme.specs.Encryption.{storedSecret}
 use Rattle.scheme.specs.Answers.{isTaken, secretDraw}
 use Rattle.sets.proofs.Transforms.{third-size}

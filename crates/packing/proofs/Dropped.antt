@@ -6,12 +6,12 @@ use Prim.Native.Nat.{ℕ, zero, suc, _+_, _-_, _*_, _/_, _%_, _^_, _≤_, _<_}
 use native.Mathlib.Nat.{div-one, zero-div, mul-one, sub-zero, sub-add-cancel, div-lt-iff-lt-mul, mod-add-div', mod-lt}
 use native.Mathlib.Omega.{arith}
 use lib.ListN.{length, length-map}
-use lib.Pow.{pow-add, pow-pos, shl-lt}
+use lib.Pow.{pow-add, pow-pos}
 use Rattle.maths.specs.Vector.{at, tabulate}
 use Rattle.maths.proofs.Vector.{tabulate-length, tabulate-at, map-at}
 use Rattle.packing.specs.Digits.{digits, pack, unpack, fourBytes, Digit}
 use Rattle.packing.specs.Dropped.{chop, highParts, packDropping, unpackDropped, Widths}
-use Rattle.packing.proofs.Digits.{unpack-pack, packed-byte, unpacked-number, pack-length, pack-below, unpack-length, unpack-below}
+use Rattle.packing.proofs.Digits.{unpack-pack, packed-byte, unpacked-number, pack-length, unpack-length}
 use Rattle.packing.proofs.Position.{Position}
 
 -- what is left of a number and what is dropped make the number
@@ -101,22 +101,7 @@ pub packDropping-length : (width cmp count : ℕ) (xs : List ℕ) → length (pa
 unfolding packDropping
 packDropping-length width cmp count xs = pack-length (width - cmp) count _
 
--- packed numbers are bytes
-pub packDropping-below : (width cmp count : ℕ) (xs : List ℕ) → Digit 8 (packDropping width cmp count xs)
-unfolding packDropping
-packDropping-below width cmp count xs = pack-below (width - cmp) count _
-
 -- as many numbers as were asked for
 pub unpackDropped-length : (width cmp count : ℕ) (bytes : List ℕ) → length (unpackDropped width cmp count bytes) ≡ count
 unfolding unpackDropped
 unpackDropped-length width cmp count bytes = rw length-map (unpack-length (width - cmp) count bytes)
-
--- unpacked numbers have width bits
-pub unpackDropped-below : (width cmp count : ℕ) (bytes : List ℕ) → cmp ≤ width → Digit width (unpackDropped width cmp count bytes)
-unfolding unpackDropped
-unpackDropped-below width cmp count bytes h = raised (unpack (width - cmp) count bytes) (unpack-below (width - cmp) count bytes)
-  where
-    raised : (xs : List ℕ) → Digit (width - cmp) xs → Digit width (map (λ x. x * 2 ^ cmp) xs)
-    raised [] digit k = pow-pos width
-    raised (x ∷ xs) digit zero = rw sub-add-cancel at (shl-lt (width - cmp) cmp (digit 0))
-    raised (x ∷ xs) digit (suc k) = raised xs (λ i. digit (suc i)) k

@@ -2,3 +2,4 @@ pub mod Digits
 pub mod Position
 pub mod Dropped
 pub mod Message
+pub mod Laws

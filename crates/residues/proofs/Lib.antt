@@ -1,3 +1,4 @@
 pub mod Barrett
-pub mod Laws
+pub mod Remainder
 pub mod Signed
+pub mod Laws

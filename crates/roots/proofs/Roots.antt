@@ -1,12 +1,13 @@
--- Every root of every set has the order of its transform size: one test, computed over the powers of all of them, and one law.
+-- Every root of every set has the order of its transform size: one test, computed over the powers of all of them, and one law. That the const tables hold these
+-- powers is tested where they stand, by their recurrence.
 -- Assumes nothing.
 use mathlib.Core.Path.{_≡_, refl}
 use mathlib.Core.Bool.{Bool, true, false, cond}
 use mathlib.Core.List.{List, [], _∷_}
 use Prim.Native.Nat.{ℕ, _<_}
 use lib.Dec.{eqb}
-use Rattle.maths.specs.Root.{RootOfOrder, continues, isPowerTable, powersFrom}
-use Rattle.maths.proofs.PowerTable.{root-of-table}
+use Rattle.maths.specs.Root.{RootOfOrder, firstOne, hasOrder}
+use Rattle.maths.proofs.PowerTable.{root-of-order}
 use Rattle.calls.specs.Checks.{allOf}
 use Rattle.calls.proofs.Checks.{Each}
 use Rattle.sets.specs.declared.Parameters.{Parameters}
@@ -16,15 +17,12 @@ use Rattle.sets.specs.Rules.{Rules}
 use Rattle.sets.proofs.Tested.{passed, at-each}
 use Rattle.sets.proofs.Rules.{rules}
 
--- the powers of a root pass the test of a table, recurrence and order
-abbrev rooted : ℕ → ℕ → ℕ → Bool
-rooted q w D = isPowerTable q w D (powersFrom q w 1 D)
-
+-- the order of each of the three roots
 abbrev tests : Parameters → List Bool
-tests p = rooted (p .q) (p .w1) (p .d1) ∷ rooted (p .q) (p .w2) (p .d2) ∷ rooted (p .q) (p .w3) (p .d3) ∷ []
+tests p = hasOrder (p .q) (p .w1) (p .d1) ∷ hasOrder (p .q) (p .w2) (p .d2) ∷ hasOrder (p .q) (p .w3) (p .d3) ∷ []
 
 table-passed : passed tests table ≡ true
-unfolding passed allOf table isPowerTable continues powersFrom
+unfolding passed allOf table hasOrder firstOne
 table-passed = refl
 
 module _ (set : ℕ) (low : set < 13) where
@@ -37,9 +35,9 @@ module _ (set : ℕ) (low : set < 13) where
 
   -- the root of whichever size two tests pick
   picked : (one two : Bool) → RootOfOrder (setOf set .q) (cond one (setOf set .d1) (cond two (setOf set .d2) (setOf set .d3))) (cond one (setOf set .w1) (cond two (setOf set .w2) (setOf set .w3)))
-  picked true two = root-of-table _ _ _ (powersFrom (setOf set .q) (setOf set .w1) 1 (setOf set .d1)) (kept .prime) (kept .divides1) (passes .0)
-  picked false true = root-of-table _ _ _ (powersFrom (setOf set .q) (setOf set .w2) 1 (setOf set .d2)) (kept .prime) (kept .divides2) (passes .1 .0)
-  picked false false = root-of-table _ _ _ (powersFrom (setOf set .q) (setOf set .w3) 1 (setOf set .d3)) (kept .prime) (kept .divides3) (passes .1 .1 .0)
+  picked true two = root-of-order _ _ _ (kept .prime) (kept .divides1) (passes .0)
+  picked false true = root-of-order _ _ _ (kept .prime) (kept .divides2) (passes .1 .0)
+  picked false false = root-of-order _ _ _ (kept .prime) (kept .divides3) (passes .1 .1 .0)
 
   -- each root of a set from 0 to 12 has the order of its transform size
   pub root : (i : ℕ) → RootOfOrder (setOf set .q) (transformSize (setOf set) i) (transformRoot (setOf set) i)

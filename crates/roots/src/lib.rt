@@ -1,9 +1,9 @@
 // The powers of the roots of unity of every set: which table serves which set. The tables stand in the crates roots_bench to roots_super256.
 ghost use mathlib.Core.Path.{_≡_};
-ghost use Prim.Native.Nat.{_%_, _^_, _≤_, _<_};
+ghost use Prim.Native.Nat.{_≤_, _<_};
 ghost use lib.ListN.{length};
 ghost use Rattle.sets.specs.Table.{setOf};
-ghost use Rattle.sets.specs.Derived.{transformSize, transformRoot, rootPowers};
+ghost use Rattle.sets.specs.Derived.{transformSize, rootPowers};
 
 // The powers of root number i of an encryption set.
 fn load_encryption(set: usize, i: usize, out: &mut [u32])
@@ -47,23 +47,4 @@ pub fn load_powers(set: usize, i: usize, out: &mut [u32])
     } else {
         load_exchange(set, i, out);
     }
-}
-
-// The power j of root number i of a set, with room for the table.
-fn power_of(set: usize, i: usize, j: usize, powers: &mut [u32]) -> u32
-    requires { ⌜ (set < 13) × (j < transformSize (setOf set) i) × (length (now powers) ≡ transformSize (setOf set) i) ⌝ }
-    ensures { λ r. ⌜ r ≡ transformRoot (setOf set) i ^ j % setOf set .q ⌝ }
-{
-    load_powers(set, i, powers);
-    powers[j]
-}
-
-// The power j of root number i of a set.
-pub fn power(set: usize, i: usize, j: usize) -> u32
-    requires { ⌜ (set < 13) × (j < transformSize (setOf set) i) ⌝ }
-    ensures { λ r. ⌜ r ≡ transformRoot (setOf set) i ^ j % setOf set .q ⌝ }
-{
-    let size = sets::derived::transform_size(sets::parameters_of(set), i);
-    let mut powers = [0u32; 3328];
-    power_of(set, i, j, &mut powers[0..size])
 }

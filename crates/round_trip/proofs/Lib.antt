@@ -1,4 +1,3 @@
 pub mod Then
-pub mod Draws
 pub mod SealAndRead
 pub mod ShareAKey

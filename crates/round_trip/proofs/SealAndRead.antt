@@ -1,229 +1,204 @@
 -- Laws of key, encrypt and decrypt called in turn: from what each promises to the answer, the slices and the claim of the whole.
 -- Assumes nothing.
-use mathlib.Core.Path.{_≡_, refl, sym, ap, ap₂, _∙_}
-use mathlib.Core.Bool.{Bool, true, not}
-use mathlib.Core.List.{List}
-use Prim.Native.Nat.{ℕ, _≤_}
+use mathlib.Core.Path.{_≡_, refl, sym, ap, _∙_}
+use mathlib.Core.Bool.{Bool, true, false}
+use mathlib.Core.List.{List, _++_}
+use Prim.Native.Nat.{ℕ}
 use native.Mathlib.Omega.{arith}
-use borrow.Author.Tests.{eqb-true, eq-eqb, le-leb, not-false}
+use borrow.Author.Tests.{eqb-true}
 use lib.ListN.{length, replicate, length-replicate}
 use Rattle.calls.specs.Outcome.{Outcome, accepted, refused, leaves}
 use Rattle.calls.specs.Checks.{allOf}
-use Rattle.calls.proofs.Outcome.{accepted-refused, leaves-accepted, leaves-refused, refuse-accepted}
-use Rattle.calls.proofs.Checks.{allOf-each}
+use Rattle.calls.proofs.Outcome.{accepted-refused, leaves-accepted, leaves-refused}
+use Rattle.calls.proofs.Checks.{allOf-each, both-hold}
 use Rattle.sets.specs.Table.{setOf}
-use Rattle.sets.specs.Derived.{isEncryption, publicKeyBytes, secretKeyBytes, ciphertextBytes}
-use Rattle.sets.proofs.Lengths.{secret-other, ciphertext-other}
-use Rattle.source.proofs.Length.{sourceBytes-length}
+use Rattle.sets.specs.Derived.{isEncryption, ciphertextBytes}
+use Rattle.packing.specs.Digits.{Digit}
 use Rattle.scheme.specs.Encryption.{secretSeed, publicKey, ciphertext, readMessage}
-use Rattle.scheme.specs.Noise.{noise}
-use Rattle.scheme.specs.Conditions.{Conditions}
-use Rattle.scheme.specs.Claim.{messageRead, Claim}
-use Rattle.scheme.specs.Answers.{refuseSet, refuseLengths, keyLengths, encryptLengths, openingLengths, keyDraws, sealingDraws, readingDraws, workLength, workLeft, encryptionKeyAnswer, encryptAnswer, decryptAnswer}
-use Rattle.scheme.proofs.Conditions.{set-conditions}
-use Rattle.scheme.proofs.Bytes.{publicKey-length, ciphertext-length}
-use Rattle.scheme.proofs.Claim.{claim}
-use Rattle.scheme.proofs.Answers.{set-own, set-range, encryption-only}
-use Rattle.round_trip.specs.Answers.{encryptedAnswer, roundTripAnswer}
-use Rattle.round_trip.proofs.Then.{then-refused, then-accepted, passed, lengths-decide, work-cleared, work-stays}
-use Rattle.round_trip.proofs.Draws.{sealing-drawn, reading-drawn}
-
--- a set of the encryption scheme
-own-set : (set : ℕ) → 1 ≤ set → set ≤ 6 → (after : Outcome) → refuseSet isEncryption set after ≡ after
-unfolding isEncryption
-own-set set some low after = set-own isEncryption set after some (omega arith) (rw (le-leb 1 set some, le-leb set 6 low))
-
--- where every slice has the set's length and no draw of the key is refused, the three calls are accepted
-pub round-trip-accepted : (set : ℕ) (seed : List ℕ) → 1 ≤ set → set ≤ 6 → length seed ≡ 32 → keyDraws (setOf set) seed ≡ accepted
-    → roundTripAnswer set seed (publicKeyBytes (setOf set)) (secretKeyBytes set) 32 32 (ciphertextBytes set) 32 (workLength (setOf set)) ≡ accepted
-unfolding allOf encryptionKeyAnswer encryptedAnswer roundTripAnswer
-round-trip-accepted set seed some low size drawn =
-    simp (size, own-set set some low, drawn, eq-eqb (publicKeyBytes (setOf set)) _ refl, eq-eqb (secretKeyBytes set) _ refl, eq-eqb (ciphertextBytes set) _ refl, eq-eqb (workLength (setOf set)) _ refl)
+use Rattle.scheme.specs.Bits.{messageRead}
+use Rattle.scheme.specs.Answers.{refuseSet, keyLengths, encryptLengths, openingLengths, keyDraws}
+use Rattle.scheme.specs.Answers.{workLength, workLeft, encryptionKeyAnswer, encryptAnswer, decryptAnswer}
+use Rattle.scheme.proofs.Answers.{set-range, by-set, by-lengths, by-draws}
+use Rattle.claim.specs.Claim.{encryption, Demand3}
+use Rattle.claim.proofs.Claim.{demand-3}
+use Rattle.round_trip.specs.Answers.{sealAndReadLengths, sealAndReadAnswer}
+use Rattle.round_trip.proofs.Then.{work-stays}
 
 module _ (set : ℕ) (seed message sealing public secret sealed read work : List ℕ) where
-  -- the answer of key, that of key and encrypt, and that of all three
-  abbrev keyed : Outcome
-  keyed = encryptionKeyAnswer set seed (length public) (length secret) (length work)
+  -- the tests of key, of encrypt and of decrypt, and all of them
+  abbrev keyTests : List Bool
+  keyTests = keyLengths set (length seed) (length public) (length secret) (length work)
 
-  abbrev closed : Outcome
-  closed = encryptedAnswer set seed (length public) (length secret) (length message) (length sealing) (length sealed) (length work)
+  abbrev encryptTests : List Bool
+  encryptTests = encryptLengths set (length public) (length message) (length sealing) (length sealed) (length work)
 
-  abbrev whole : Outcome
-  whole = roundTripAnswer set seed (length public) (length secret) (length message) (length sealing) (length sealed) (length read) (length work)
+  abbrev decryptTests : List Bool
+  decryptTests = openingLengths set (length secret) (length sealed) (length read) (length work)
 
-  -- what key leaves in the work slice
-  abbrev keyWork : List ℕ
-  keyWork = workLeft isEncryption set (keyLengths set (length seed) (length public) (length secret) (length work)) work
+  abbrev tests : List Bool
+  tests = sealAndReadLengths set (length seed) (length message) (length sealing) (length public) (length secret) (length sealed) (length read) (length work)
 
-  -- what key promises: its answer, the keys, the work slice
-  abbrev pub KeyPromised : Outcome → List ℕ → List ℕ → List ℕ → Type 0
-  KeyPromised o public₁ secret₁ work₁ =
-      (o ≡ keyed) × ((public₁ ≡ leaves keyed (publicKey (setOf set) seed) public) × ((secret₁ ≡ leaves keyed (secretSeed (setOf set) seed) secret) × (work₁ ≡ keyWork)))
+  -- the ciphertext
+  abbrev made : List ℕ
+  made = ciphertext (setOf set) (publicKey (setOf set) seed) message sealing
 
-  -- what the three calls in turn promise: the answer, the keys, the ciphertext, the message read, the work slice, the claim
+  -- what the whole promises: the answer, the keys, the ciphertext, the message read, the work slice, the claim
   abbrev pub Promised : Outcome → List ℕ → List ℕ → List ℕ → List ℕ → List ℕ → Type 0
   Promised o public₁ secret₁ sealed₁ read₁ work₁ =
-      (o ≡ whole)
-      × ((public₁ ≡ leaves keyed (publicKey (setOf set) seed) public)
-      × ((secret₁ ≡ leaves keyed (secretSeed (setOf set) seed) secret)
-      × ((sealed₁ ≡ leaves closed (ciphertext (setOf set) (publicKey (setOf set) seed) message sealing) sealed)
-      × ((read₁ ≡ leaves whole (messageRead (setOf set) seed message sealing) read)
-      × ((work₁ ≡ keyWork)
-      × (o ≡ accepted → Claim (setOf set) (noise (setOf set) seed message sealing) message read₁))))))
+      (o ≡ sealAndReadAnswer set seed tests)
+      × ((public₁ ≡ leaves o (publicKey (setOf set) seed) public)
+      × ((secret₁ ≡ leaves o (secretSeed (setOf set) seed) secret)
+      × ((sealed₁ ≡ leaves o made sealed)
+      × ((read₁ ≡ leaves o (messageRead (setOf set) seed message sealing) read)
+      × ((work₁ ≡ workLeft isEncryption set tests work)
+      × (o ≡ accepted → Demand3 set (encryption seed message sealing)))))))
 
-  -- key refuses, and nothing else is called
-  pub by-key : {o : Outcome} {number place : ℕ} {public₁ secret₁ work₁ : List ℕ} → o ≡ refused number place → KeyPromised o public₁ secret₁ work₁ → Promised o public₁ secret₁ sealed read work₁
-  unfolding encryptedAnswer roundTripAnswer
-  by-key {o} {number} {place} e made =
-      let first : keyed ≡ refused number place = sym (made .0) ∙ e in
-      let second : closed ≡ refused number place = then-refused _ first in
-      let third : whole ≡ refused number place = then-refused _ second in
-      (e ∙ sym third, (made .1 .0, (made .1 .1 .0, (sym (leaves-refused _ _ second), (sym (leaves-refused _ _ third), (made .1 .1 .1, λ a. absurd (accepted-refused a e)))))))
+  -- nothing was written
+  untouched : {o : Outcome} {number place : ℕ} {work₁ : List ℕ} → o ≡ refused number place → (sealAndReadAnswer set seed tests ≡ refused number place) × (work₁ ≡ workLeft isEncryption set tests work)
+      → Promised o public secret sealed read work₁
+  untouched e answered =
+      (e ∙ sym (answered .0), (sym (leaves-refused _ _ e), (sym (leaves-refused _ _ e), (sym (leaves-refused _ _ e), (sym (leaves-refused _ _ e), (answered .1, λ a. absurd (accepted-refused a e)))))))
 
-  module _ (public₁ secret₁ work₁ : List ℕ) (made : KeyPromised accepted public₁ secret₁ work₁) where
-    -- key passed its checks and its draws
-    key-passed : (refuseSet isEncryption set accepted ≡ accepted) × (allOf (keyLengths set (length seed) (length public) (length secret) (length work)) ≡ true) × (keyDraws (setOf set) seed ≡ accepted)
+  -- the set refuses
+  pub set-refuses : {o : Outcome} {number place : ℕ} → o ≡ refused number place → o ≡ refuseSet isEncryption set accepted → Promised o public secret sealed read work
+  unfolding sealAndReadAnswer
+  set-refuses e checked = untouched e (by-set isEncryption set tests (keyDraws (setOf set) seed) work (sym checked ∙ e))
+
+  -- a length refuses
+  pub length-refuses : refuseSet isEncryption set accepted ≡ accepted → allOf tests ≡ false → Promised (refused 2 0) public secret sealed read work
+  unfolding sealAndReadAnswer
+  length-refuses passed short = untouched refl (by-lengths isEncryption set tests (keyDraws (setOf set) seed) work passed short)
+
+  module _ (passed : refuseSet isEncryption set accepted ≡ accepted) (fits : allOf tests ≡ true) where
+    -- the tests of each call hold
+    key-fits : allOf keyTests ≡ true
+    key-fits = both-hold keyTests (encryptTests ++ decryptTests) fits .0
+
+    encrypt-fits : allOf encryptTests ≡ true
+    encrypt-fits = both-hold encryptTests decryptTests (both-hold keyTests (encryptTests ++ decryptTests) fits .1) .0
+
+    decrypt-fits : allOf decryptTests ≡ true
+    decrypt-fits = both-hold encryptTests decryptTests (both-hold keyTests (encryptTests ++ decryptTests) fits .1) .1
+
+    -- the draws of the key decide, and the work slice is cleared
+    whole-answers : (sealAndReadAnswer set seed tests ≡ keyDraws (setOf set) seed) × (replicate (length work) 0 ≡ workLeft isEncryption set tests work)
+    unfolding sealAndReadAnswer
+    whole-answers = by-draws isEncryption set tests (keyDraws (setOf set) seed) work passed fits refl
+
+    key-answers : (encryptionKeyAnswer set seed (length public) (length secret) (length work) ≡ keyDraws (setOf set) seed)
+        × (replicate (length work) 0 ≡ workLeft isEncryption set keyTests work)
     unfolding encryptionKeyAnswer
-    key-passed = passed isEncryption set _ _ (sym (made .0))
+    key-answers = by-draws isEncryption set keyTests (keyDraws (setOf set) seed) work passed key-fits refl
 
-    -- the set's number and scheme
-    range : (1 ≤ set) × (set ≤ 12) × (isEncryption set ≡ true)
-    range = set-range isEncryption set (key-passed .0)
+    -- what key promises: its answer, the keys, the work slice
+    abbrev pub KeyPromised : Outcome → List ℕ → List ℕ → List ℕ → Type 0
+    KeyPromised o public₁ secret₁ work₁ =
+        let keyed = encryptionKeyAnswer set seed (length public) (length secret) (length work) in
+        (o ≡ keyed)
+        × ((public₁ ≡ leaves keyed (publicKey (setOf set) seed) public)
+        × ((secret₁ ≡ leaves keyed (secretSeed (setOf set) seed) secret) × (work₁ ≡ workLeft isEncryption set keyTests work)))
 
-    conditions : Conditions (setOf set)
-    conditions = set-conditions set (range .0) (omega (arith, range .1))
+    -- a draw of the key is refused
+    pub key-refuses : {o : Outcome} {number place : ℕ} {public₁ secret₁ work₁ : List ℕ} → o ≡ refused number place → KeyPromised o public₁ secret₁ work₁
+        → Promised o public₁ secret₁ sealed read work₁
+    key-refuses {o} {number} {place} {public₁} {secret₁} e key =
+        let keyed : encryptionKeyAnswer set seed (length public) (length secret) (length work) ≡ o = sym (key .0) in
+        let public-kept : public₁ ≡ public = key .1 .0 ∙ leaves-refused _ _ (keyed ∙ e) in
+        let secret-kept : secret₁ ≡ secret = key .1 .1 .0 ∙ leaves-refused _ _ (keyed ∙ e) in
+        rw (public-kept, secret-kept)
+        (untouched e (whole-answers .0 ∙ sym (key-answers .0) ∙ keyed ∙ e, key .1 .1 .1 ∙ sym (key-answers .1) ∙ whole-answers .1))
 
-    -- what key left
-    public-is : public₁ ≡ publicKey (setOf set) seed
-    public-is = made .1 .0 ∙ leaves-accepted _ _ (sym (made .0))
+    -- key is accepted
+    module _ (public₁ secret₁ work₁ : List ℕ) (key : KeyPromised accepted public₁ secret₁ work₁) (bytes : Digit 8 message) where
+      keyed : encryptionKeyAnswer set seed (length public) (length secret) (length work) ≡ accepted
+      keyed = sym (key .0)
 
-    secret-is : secret₁ ≡ secretSeed (setOf set) seed
-    secret-is = made .1 .1 .0 ∙ leaves-accepted _ _ (sym (made .0))
+      -- no draw was refused, so that demand 3 holds
+      pub holds : Demand3 set (encryption seed message sealing)
+      holds =
+          let range = set-range isEncryption set passed in
+          let each = allOf-each encryptTests encrypt-fits in
+          demand-3 set (encryption seed message sealing) (omega (arith, range .1))
+          (range .2, eqb-true _ _ (allOf-each keyTests key-fits .0), eqb-true _ _ (each .1 .1 .0), eqb-true _ _ (each .1 .0), bytes)
+          (sym (key-answers .0) ∙ keyed)
 
-    work-is : work₁ ≡ replicate (length work) 0
-    unfolding encryptionKeyAnswer
-    work-is = made .1 .1 .1 ∙ work-cleared isEncryption set _ _ work (sym (made .0))
+      -- what key left
+      public-is : public₁ ≡ publicKey (setOf set) seed
+      public-is = key .1 .0 ∙ leaves-accepted _ _ keyed
 
-    -- the lengths of both keys
-    public-size : length public₁ ≡ length public
-    public-size = ap length public-is ∙ publicKey-length conditions seed ∙ sym (eqb-true _ _ (allOf-each _ (key-passed .1) .1 .0))
+      secret-is : secret₁ ≡ secretSeed (setOf set) seed
+      secret-is = key .1 .1 .0 ∙ leaves-accepted _ _ keyed
 
-    secret-size : length secret₁ ≡ length secret
-    unfolding secretSeed
-    secret-size =
-        ap length secret-is
-        ∙ sourceBytes-length (setOf set) seed 0 32
-        ∙ sym (eqb-true _ _ (allOf-each _ (key-passed .1) .1 .1 .0) ∙ secret-other set (encryption-only set (range .2)))
+      work-is : work₁ ≡ replicate (length work) 0
+      work-is = key .1 .1 .1 ∙ sym (key-answers .1)
 
-    work-size : length work₁ ≡ length work
-    work-size = ap length work-is ∙ length-replicate {A = ℕ} (length work) 0
+      -- the lengths of the work slice and of the ciphertext
+      work-size : length work ≡ workLength (setOf set)
+      work-size = eqb-true _ _ (allOf-each keyTests key-fits .1 .1 .1 .0)
 
-    -- a later call leaves in the work slice what key left there
-    work-kept : (tests : List Bool) → workLeft isEncryption set tests work₁ ≡ keyWork
-    work-kept tests = ap (workLeft isEncryption set tests) work-is ∙ work-stays isEncryption set tests (length work) ∙ sym work-is ∙ made .1 .1 .1
+      cleared-size : length {A = ℕ} (replicate (length work) 0) ≡ workLength (setOf set)
+      cleared-size = length-replicate {A = ℕ} (length work) 0 ∙ work-size
 
-    -- the answer of encrypt
-    abbrev encrypted : Outcome
-    encrypted = encryptAnswer set public₁ message sealing (length sealed) (length work₁)
+      sealed-size : length sealed ≡ ciphertextBytes set
+      sealed-size = eqb-true _ _ (allOf-each encryptTests encrypt-fits .1 .1 .1 .0)
 
-    abbrev encryptTests : List Bool
-    encryptTests = encryptLengths set (length public₁) (length message) (length sealing) (length sealed) (length work₁)
+      -- encrypt is accepted
+      abbrev encrypted : Outcome
+      encrypted = encryptAnswer set public₁ message sealing (length sealed) (length work₁)
 
-    -- what encrypt promises
-    abbrev pub EncryptPromised : Outcome → List ℕ → List ℕ → Type 0
-    EncryptPromised o sealed₁ work₂ =
-        (o ≡ encrypted) × ((sealed₁ ≡ leaves encrypted (ciphertext (setOf set) public₁ message sealing) sealed) × (work₂ ≡ workLeft isEncryption set encryptTests work₁))
+      encrypt-accepts : encrypted ≡ accepted
+      encrypt-accepts = rw (public-is, work-is, cleared-size, sealed-size) (holds .sealing-accepts)
 
-    -- encrypt refuses nothing but a length
-    encrypt-lengths : encrypted ≡ refuseLengths encryptTests accepted
-    unfolding encryptAnswer
-    encrypt-lengths =
-        lengths-decide isEncryption set _ _ (key-passed .0) (ap (sealingDraws (setOf set)) public-is ∙ sealing-drawn conditions seed (key-passed .2))
+      -- what encrypt promises
+      abbrev pub EncryptPromised : List ℕ → List ℕ → Type 0
+      EncryptPromised sealed₁ work₂ =
+          (sealed₁ ≡ leaves encrypted (ciphertext (setOf set) public₁ message sealing) sealed)
+          × (work₂ ≡ workLeft isEncryption set (encryptLengths set (length public₁) (length message) (length sealing) (length sealed) (length work₁)) work₁)
 
-    encrypt-is : encrypted ≡ closed
-    unfolding encryptedAnswer
-    encrypt-is =
-        encrypt-lengths
-        ∙ ap₂ (λ (n m : ℕ). refuseLengths (encryptLengths set n (length message) (length sealing) (length sealed) m) accepted) public-size work-size
-        ∙ sym (then-accepted _ (sym (made .0)))
+      module _ (sealed₁ work₂ : List ℕ) (sent : EncryptPromised sealed₁ work₂) where
+        sealed-is : sealed₁ ≡ made
+        sealed-is = sent .0 ∙ leaves-accepted _ _ encrypt-accepts ∙ ap (λ (pk : List ℕ). ciphertext (setOf set) pk message sealing) public-is
 
-    -- the ciphertext, or what was there
-    sealed-left : {o : Outcome} {sealed₁ work₂ : List ℕ} → EncryptPromised o sealed₁ work₂ → sealed₁ ≡ leaves closed (ciphertext (setOf set) (publicKey (setOf set) seed) message sealing) sealed
-    sealed-left sent = sent .1 .0 ∙ ap₂ (λ (o : Outcome) (pk : List ℕ). leaves o (ciphertext (setOf set) pk message sealing) sealed) encrypt-is public-is
+        work₂-is : work₂ ≡ replicate (length work) 0
+        work₂-is = sent .1 ∙ ap (workLeft isEncryption set _) work-is ∙ work-stays isEncryption set _ (length work)
 
-    -- encrypt refuses, and decrypt is not called
-    pub by-encrypt : {o : Outcome} {number place : ℕ} {sealed₁ work₂ : List ℕ} → o ≡ refused number place → EncryptPromised o sealed₁ work₂ → Promised o public₁ secret₁ sealed₁ read work₂
-    unfolding roundTripAnswer
-    by-encrypt {o} {number} {place} e sent =
-        let second : closed ≡ refused number place = sym (sent .0 ∙ encrypt-is) ∙ e in
-        let third : whole ≡ refused number place = then-refused _ second in
-        (e ∙ sym third, (made .1 .0, (made .1 .1 .0, (sealed-left sent, (sym (leaves-refused _ _ third), (sent .1 .1 ∙ work-kept encryptTests, λ a. absurd (accepted-refused a e)))))))
+        read-size : length read ≡ 32
+        read-size = eqb-true _ _ (allOf-each decryptTests decrypt-fits .1 .1 .0)
 
-    module _ (sealed₁ work₂ : List ℕ) (sent : EncryptPromised accepted sealed₁ work₂) where
-      closed-accepted : closed ≡ accepted
-      closed-accepted = sym (sent .0 ∙ encrypt-is)
+        -- decrypt is accepted
+        abbrev decrypted : Outcome
+        decrypted = decryptAnswer set secret₁ sealed₁ (length read) (length work₂)
 
-      sealed-is : sealed₁ ≡ ciphertext (setOf set) (publicKey (setOf set) seed) message sealing
-      sealed-is = sealed-left sent ∙ leaves-accepted _ _ closed-accepted
+        decrypt-accepts : decrypted ≡ accepted
+        decrypt-accepts = rw (secret-is, sealed-is, work₂-is, cleared-size, read-size) (holds .reading-accepts)
 
-      -- the ciphertext's length
-      sealed-size : length sealed₁ ≡ length sealed
-      sealed-size =
-          let fits = not-false _ (refuse-accepted (not (allOf encryptTests)) 2 0 accepted (sym (sent .0 ∙ encrypt-lengths)) .0) in
-          ap length sealed-is
-          ∙ ciphertext-length conditions (publicKey (setOf set) seed) message sealing
-          ∙ sym (eqb-true _ _ (allOf-each _ fits .1 .1 .1 .0) ∙ ciphertext-other set (encryption-only set (range .2)))
+        -- what decrypt promises
+        abbrev pub DecryptPromised : Outcome → List ℕ → List ℕ → Type 0
+        DecryptPromised o read₁ work₃ =
+            (o ≡ decrypted)
+            × ((read₁ ≡ leaves decrypted (readMessage (setOf set) secret₁ sealed₁) read)
+            × (work₃ ≡ workLeft isEncryption set (openingLengths set (length secret₁) (length sealed₁) (length read) (length work₂)) work₂))
 
-      work₂-is : work₂ ≡ work₁
-      work₂-is = sent .1 .1 ∙ work-kept encryptTests ∙ sym (made .1 .1 .1)
+        -- the message read is that of the definitions
+        read-is : readMessage (setOf set) secret₁ sealed₁ ≡ messageRead (setOf set) seed message sealing
+        unfolding messageRead
+        read-is = rw (secret-is, sealed-is)
 
-      -- the answer of decrypt
-      abbrev decrypted : Outcome
-      decrypted = decryptAnswer set secret₁ sealed₁ (length read) (length work₂)
-
-      abbrev decryptTests : List Bool
-      decryptTests = openingLengths set (length secret₁) (length sealed₁) (length read) (length work₂)
-
-      -- what decrypt promises
-      abbrev pub DecryptPromised : Outcome → List ℕ → List ℕ → Type 0
-      DecryptPromised o read₁ work₃ =
-          (o ≡ decrypted) × ((read₁ ≡ leaves decrypted (readMessage (setOf set) secret₁ sealed₁) read) × (work₃ ≡ workLeft isEncryption set decryptTests work₂))
-
-      -- decrypt refuses nothing but a length
-      decrypt-is : decrypted ≡ whole
-      unfolding decryptAnswer roundTripAnswer
-      decrypt-is =
-          lengths-decide isEncryption set decryptTests _ (key-passed .0)
-          (ap₂ (readingDraws (setOf set)) secret-is sealed-is ∙ reading-drawn conditions seed (key-passed .2) (publicKey (setOf set) seed) message sealing)
-          ∙ ap₂ (λ (n m : ℕ). refuseLengths (openingLengths set n m (length read) (length work₂)) accepted) secret-size sealed-size
-          ∙ ap (λ (n : ℕ). refuseLengths (openingLengths set (length secret) (length sealed) (length read) n) accepted) (ap length work₂-is ∙ work-size)
-          ∙ sym (then-accepted _ closed-accepted)
-
-      -- the message read is that of the definitions
-      read-is : readMessage (setOf set) secret₁ sealed₁ ≡ messageRead (setOf set) seed message sealing
-      unfolding messageRead
-      read-is = ap₂ (readMessage (setOf set)) secret-is sealed-is
-
-      -- all three are called
-      pub by-decrypt : {o : Outcome} {read₁ work₃ : List ℕ} → DecryptPromised o read₁ work₃ → Promised o public₁ secret₁ sealed₁ read₁ work₃
-      by-decrypt {o} {read₁} {work₃} opened =
-          let third : o ≡ whole = opened .0 ∙ decrypt-is in
-          let left : read₁ ≡ leaves whole (messageRead (setOf set) seed message sealing) read = opened .1 .0 ∙ ap₂ (λ (a : Outcome) (new : List ℕ). leaves a new read) decrypt-is read-is in (
-            third,
-            (
-              made .1 .0,
+        -- all three calls are accepted
+        pub all-accept : {o : Outcome} {read₁ work₃ : List ℕ} → DecryptPromised o read₁ work₃ → Promised o public₁ secret₁ sealed₁ read₁ work₃
+        all-accept {o} {read₁} {work₃} opened =
+            let done : o ≡ accepted = opened .0 ∙ decrypt-accepts in
+            let cleared : work₃ ≡ workLeft isEncryption set tests work =
+            opened .1 .1 ∙ ap (workLeft isEncryption set _) work₂-is ∙ work-stays isEncryption set _ (length work) ∙ whole-answers .1 in (
+              done ∙ sym (whole-answers .0 ∙ sym (key-answers .0) ∙ keyed),
               (
-                made .1 .1 .0,
+                public-is ∙ sym (leaves-accepted _ _ done),
                 (
-                  sealed-left sent,
+                  secret-is ∙ sym (leaves-accepted _ _ done),
                   (
-                    left,
-                    (
-                      opened .1 .1 ∙ ap (workLeft isEncryption set decryptTests) work₂-is ∙ work-kept decryptTests,
-                      λ a. rw (left ∙ leaves-accepted _ _ (sym third ∙ a)) (claim conditions seed message sealing),
-                    ),
+                    sealed-is ∙ sym (leaves-accepted _ _ done),
+                    (opened .1 .0 ∙ leaves-accepted _ _ decrypt-accepts ∙ read-is ∙ sym (leaves-accepted _ _ done), (cleared, λ a. holds)),
                   ),
                 ),
               ),
-            ),
-          )
+            )

@@ -1,18 +1,40 @@
 // Key, encrypt and decrypt of the encryption scheme in turn, for sets 1 to 6.
 use calls::Answer;
 ghost use mathlib.Core.Path.{_≡_};
-ghost use lib.ListN.{length};
+ghost use Prim.Native.Nat.{_<_};
 ghost use Rattle.calls.specs.Outcome.{outcome, accepted, leaves};
+ghost use Rattle.calls.specs.Checks.{allOf};
 ghost use Rattle.sets.specs.Table.{setOf};
-ghost use Rattle.sets.specs.Derived.{isEncryption};
 ghost use Rattle.scheme.specs.Encryption.{secretSeed, publicKey, ciphertext};
-ghost use Rattle.scheme.specs.Noise.{noise};
-ghost use Rattle.scheme.specs.Claim.{messageRead, Claim};
-ghost use Rattle.scheme.specs.Answers.{keyLengths, workLeft, encryptionKeyAnswer};
-ghost use Rattle.round_trip.specs.Answers.{encryptedAnswer, roundTripAnswer};
+ghost use Rattle.claim.specs.Claim.{encryption, given, Demand3};
+ghost use Rattle.round_trip.specs.Answers.{sealAndReadLengths, sealAndRead, sealAndReadWork};
+
+// Whether all slices have the set's lengths.
+fn fits(
+    set: usize,
+    seed: usize,
+    message: usize,
+    sealing: usize,
+    public: usize,
+    secret: usize,
+    sealed: usize,
+    read: usize,
+    work: usize,
+) -> bool
+    requires { ⌜ set < 13 ⌝ }
+    ensures { λ r. ⌜ r ≡ allOf (sealAndReadLengths set seed message sealing public secret sealed read work) ⌝ }
+{
+    if !encryption::key_fits(set, seed, public, secret, work) {
+        return false;
+    }
+    if !encryption::encrypt_fits(set, public, message, sealing, sealed, work) {
+        return false;
+    }
+    encryption::decrypt_fits(set, secret, sealed, read, work)
+}
 
 // The keys of a seed, the ciphertext of the message under the public key so given, and the message read from both with the secret key so given.
-// A bit read is the bit sent where twice the size of its noise is below h, and its opposite where that is above h + 2 and below 3 · h (`claim`).
+// Where it is accepted, demand 3 holds of these seeds and this message (`claim`): of the bits in the message read, which is what it calls `given`.
 pub fn seal_and_read(
     set: usize,
     seed: &[u8],
@@ -24,21 +46,39 @@ pub fn seal_and_read(
     read: &mut [u8],
     work: &mut [u32],
 ) -> Answer
-    ensures answer { λ r. ⌜ outcome r ≡ roundTripAnswer set (now (seed .entry)) (length (now (public .entry))) (length (now (secret .entry))) (length (now (message .entry))) (length (now (sealing .entry))) (length (now (sealed .entry))) (length (now (read .entry))) (length (now (work .entry))) ⌝ }
-    ensures given { λ _. ⌜ now (public .exit) ≡ leaves (encryptionKeyAnswer set (now (seed .entry)) (length (now (public .entry))) (length (now (secret .entry))) (length (now (work .entry)))) (publicKey (setOf set) (now (seed .entry))) (now (public .entry)) ⌝ }
-    ensures kept { λ _. ⌜ now (secret .exit) ≡ leaves (encryptionKeyAnswer set (now (seed .entry)) (length (now (public .entry))) (length (now (secret .entry))) (length (now (work .entry)))) (secretSeed (setOf set) (now (seed .entry))) (now (secret .entry)) ⌝ }
-    ensures sent { λ _. ⌜ now (sealed .exit) ≡ leaves (encryptedAnswer set (now (seed .entry)) (length (now (public .entry))) (length (now (secret .entry))) (length (now (message .entry))) (length (now (sealing .entry))) (length (now (sealed .entry))) (length (now (work .entry)))) (ciphertext (setOf set) (publicKey (setOf set) (now (seed .entry))) (now (message .entry)) (now (sealing .entry))) (now (sealed .entry)) ⌝ }
-    ensures opened { λ _. ⌜ now (read .exit) ≡ leaves (roundTripAnswer set (now (seed .entry)) (length (now (public .entry))) (length (now (secret .entry))) (length (now (message .entry))) (length (now (sealing .entry))) (length (now (sealed .entry))) (length (now (read .entry))) (length (now (work .entry)))) (messageRead (setOf set) (now (seed .entry)) (now (message .entry)) (now (sealing .entry))) (now (read .entry)) ⌝ }
-    ensures cleared { λ _. ⌜ now (work .exit) ≡ workLeft isEncryption set (keyLengths set (length (now (seed .entry))) (length (now (public .entry))) (length (now (secret .entry))) (length (now (work .entry)))) (now (work .entry)) ⌝ }
-    ensures claim { λ r. ⌜ (outcome r ≡ accepted → Claim (setOf set) (noise (setOf set) (now (seed .entry)) (now (message .entry)) (now (sealing .entry))) (now (message .entry)) (now (read .exit))) ⌝ }
+    ensures answer { λ r. ⌜ outcome r ≡ sealAndRead set (now (seed .entry)) (now (message .entry)) (now (sealing .entry))
+        (now (public .entry)) (now (secret .entry)) (now (sealed .entry)) (now (read .entry)) (now (work .entry)) ⌝ }
+    ensures given { λ r. ⌜ now (public .exit) ≡ leaves (outcome r) (publicKey (setOf set) (now (seed .entry))) (now (public .entry)) ⌝ }
+    ensures kept { λ r. ⌜ now (secret .exit) ≡ leaves (outcome r) (secretSeed (setOf set) (now (seed .entry))) (now (secret .entry)) ⌝ }
+    ensures sent { λ r. ⌜ now (sealed .exit) ≡ leaves (outcome r)
+        (ciphertext (setOf set) (publicKey (setOf set) (now (seed .entry))) (now (message .entry)) (now (sealing .entry))) (now (sealed .entry)) ⌝ }
+    ensures opened { λ r. ⌜ now (read .exit) ≡ leaves (outcome r)
+        (given set (encryption (now (seed .entry)) (now (message .entry)) (now (sealing .entry)))) (now (read .entry)) ⌝ }
+    ensures cleared { λ _. ⌜ now (work .exit) ≡ sealAndReadWork set (now (seed .entry)) (now (message .entry)) (now (sealing .entry))
+        (now (public .entry)) (now (secret .entry)) (now (sealed .entry)) (now (read .entry)) (now (work .entry)) ⌝ }
+    ensures claim { λ r. ⌜ (outcome r ≡ accepted → Demand3 set (encryption (now (seed .entry)) (now (message .entry)) (now (sealing .entry)))) ⌝ }
 {
+    let checked = encryption::set_checked(set);
+    let Answer::Done = checked else {
+        return checked;
+    };
+    if !fits(
+        set,
+        seed.len(),
+        message.len(),
+        sealing.len(),
+        public.len(),
+        secret.len(),
+        sealed.len(),
+        read.len(),
+        work.len(),
+    ) {
+        return Answer::Refused(2, 0);
+    }
     let made = encryption::key(set, seed, public, secret, work);
     let Answer::Done = made else {
         return made;
     };
-    let closed = encryption::encrypt(set, public, message, sealing, sealed, work);
-    let Answer::Done = closed else {
-        return closed;
-    };
+    encryption::encrypt(set, public, message, sealing, sealed, work);
     encryption::decrypt(set, secret, sealed, read, work)
 }

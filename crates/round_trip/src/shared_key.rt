@@ -1,21 +1,42 @@
 // Key, encapsulate and decapsulate of the key exchange in turn, for sets 7 to 12.
 use calls::Answer;
 ghost use mathlib.Core.Path.{_≡_};
-ghost use Prim.Native.Nat.{ℕ, _*_, _<_};
-ghost use lib.IntN.{natAbs};
-ghost use lib.ListN.{length};
+ghost use Prim.Native.Nat.{_<_};
 ghost use Rattle.calls.specs.Outcome.{outcome, accepted, leaves};
+ghost use Rattle.calls.specs.Checks.{allOf};
 ghost use Rattle.sets.specs.Table.{setOf};
-ghost use Rattle.sets.specs.Derived.{isExchange, halfModulus};
-ghost use Rattle.scheme.specs.Exchange.{innerSeed, sealingSeed, exchangePublicKey, exchangeSecretKey, encapsulated, sharedKey, decapsulatedMessage, decapsulated};
-ghost use Rattle.scheme.specs.Noise.{noise};
-ghost use Rattle.scheme.specs.Claim.{Claim};
-ghost use Rattle.scheme.specs.Answers.{keyLengths, workLeft, exchangeKeyAnswer};
-ghost use Rattle.round_trip.specs.Answers.{encapsulatedAnswer, sharedKeyAnswer};
+ghost use Rattle.scheme.specs.Exchange.{exchangePublicKey, exchangeSecretKey, encapsulated};
+ghost use Rattle.claim.specs.Claim.{exchange, held, given, Demand3};
+ghost use Rattle.round_trip.specs.Answers.{shareAKeyLengths, shareAKey, shareAKeyWork};
 
-// The keys of a seed, the ciphertext and the office's shared key of the message under the public key so given, and the lock's shared key of that ciphertext with the secret key so given.
-// A bit that the lock reads is the bit sent where twice the size of its noise is below h, and its opposite where that is above h + 2 and below 3 · h (`claim`).
-// Where twice the size of the noise is below h at every place, the lock has the office's key (`same`).
+// Whether all slices have the set's lengths.
+fn fits(
+    set: usize,
+    seed: usize,
+    message: usize,
+    public: usize,
+    secret: usize,
+    sealed: usize,
+    sent: usize,
+    received: usize,
+    work: usize,
+) -> bool
+    requires { ⌜ set < 13 ⌝ }
+    ensures { λ r. ⌜ r ≡ allOf (shareAKeyLengths set seed message public secret sealed sent received work) ⌝ }
+{
+    if !exchange::key_fits(set, seed, public, secret, work) {
+        return false;
+    }
+    if !exchange::encapsulate_fits(set, public, message, sealed, sent, work) {
+        return false;
+    }
+    exchange::decapsulate_fits(set, secret, sealed, received, work)
+}
+
+// The keys of a seed, the ciphertext and the shared key of the message under the public key so given, and the shared key of that ciphertext with the
+// secret key so given.
+// Where it is accepted, demand 3 holds of this seed and this message (`claim`): both shared keys are equal where twice the size of the noise is below h
+// at every place.
 pub fn share_a_key(
     set: usize,
     seed: &[u8],
@@ -23,27 +44,43 @@ pub fn share_a_key(
     public: &mut [u8],
     secret: &mut [u8],
     sealed: &mut [u8],
-    office: &mut [u8],
-    lock: &mut [u8],
+    sent: &mut [u8],
+    received: &mut [u8],
     work: &mut [u32],
 ) -> Answer
-    ensures answer { λ r. ⌜ outcome r ≡ sharedKeyAnswer set (now (seed .entry)) (length (now (public .entry))) (length (now (secret .entry))) (length (now (message .entry))) (length (now (sealed .entry))) (length (now (office .entry))) (length (now (lock .entry))) (length (now (work .entry))) ⌝ }
-    ensures given { λ _. ⌜ now (public .exit) ≡ leaves (exchangeKeyAnswer set (now (seed .entry)) (length (now (public .entry))) (length (now (secret .entry))) (length (now (work .entry)))) (exchangePublicKey (setOf set) (now (seed .entry))) (now (public .entry)) ⌝ }
-    ensures kept { λ _. ⌜ now (secret .exit) ≡ leaves (exchangeKeyAnswer set (now (seed .entry)) (length (now (public .entry))) (length (now (secret .entry))) (length (now (work .entry)))) (exchangeSecretKey (setOf set) (now (seed .entry))) (now (secret .entry)) ⌝ }
-    ensures sent { λ _. ⌜ now (sealed .exit) ≡ leaves (encapsulatedAnswer set (now (seed .entry)) (length (now (public .entry))) (length (now (secret .entry))) (length (now (message .entry))) (length (now (sealed .entry))) (length (now (office .entry))) (length (now (work .entry)))) (encapsulated (setOf set) (exchangePublicKey (setOf set) (now (seed .entry))) (now (message .entry))) (now (sealed .entry)) ⌝ }
-    ensures agreed { λ _. ⌜ now (office .exit) ≡ leaves (encapsulatedAnswer set (now (seed .entry)) (length (now (public .entry))) (length (now (secret .entry))) (length (now (message .entry))) (length (now (sealed .entry))) (length (now (office .entry))) (length (now (work .entry)))) (sharedKey (setOf set) (exchangePublicKey (setOf set) (now (seed .entry))) (now (message .entry))) (now (office .entry)) ⌝ }
-    ensures opened { λ _. ⌜ now (lock .exit) ≡ leaves (sharedKeyAnswer set (now (seed .entry)) (length (now (public .entry))) (length (now (secret .entry))) (length (now (message .entry))) (length (now (sealed .entry))) (length (now (office .entry))) (length (now (lock .entry))) (length (now (work .entry)))) (decapsulated (setOf set) (exchangeSecretKey (setOf set) (now (seed .entry))) (encapsulated (setOf set) (exchangePublicKey (setOf set) (now (seed .entry))) (now (message .entry)))) (now (lock .entry)) ⌝ }
-    ensures cleared { λ _. ⌜ now (work .exit) ≡ workLeft isExchange set (keyLengths set (length (now (seed .entry))) (length (now (public .entry))) (length (now (secret .entry))) (length (now (work .entry)))) (now (work .entry)) ⌝ }
-    ensures claim { λ r. ⌜ (outcome r ≡ accepted → Claim (setOf set) (noise (setOf set) (innerSeed (setOf set) (now (seed .entry))) (now (message .entry)) (sealingSeed (now (message .entry)))) (now (message .entry)) (decapsulatedMessage (setOf set) (now (secret .exit)) (now (sealed .exit)))) ⌝ }
-    ensures same { λ r. ⌜ (outcome r ≡ accepted → ((j : ℕ) → j < setOf set .d → 2 * natAbs (noise (setOf set) (innerSeed (setOf set) (now (seed .entry))) (now (message .entry)) (sealingSeed (now (message .entry))) j) < halfModulus (setOf set)) → now (lock .exit) ≡ now (office .exit)) ⌝ }
+    ensures answer { λ r. ⌜ outcome r ≡ shareAKey set (now (seed .entry)) (now (message .entry))
+        (now (public .entry)) (now (secret .entry)) (now (sealed .entry)) (now (sent .entry)) (now (received .entry)) (now (work .entry)) ⌝ }
+    ensures given { λ r. ⌜ now (public .exit) ≡ leaves (outcome r) (exchangePublicKey (setOf set) (now (seed .entry))) (now (public .entry)) ⌝ }
+    ensures kept { λ r. ⌜ now (secret .exit) ≡ leaves (outcome r) (exchangeSecretKey (setOf set) (now (seed .entry))) (now (secret .entry)) ⌝ }
+    ensures closed { λ r. ⌜ now (sealed .exit) ≡ leaves (outcome r)
+        (encapsulated (setOf set) (exchangePublicKey (setOf set) (now (seed .entry))) (now (message .entry))) (now (sealed .entry)) ⌝ }
+    ensures agreed { λ r. ⌜ now (sent .exit) ≡ leaves (outcome r) (held set (exchange (now (seed .entry)) (now (message .entry)))) (now (sent .entry)) ⌝ }
+    ensures opened { λ r. ⌜ now (received .exit) ≡ leaves (outcome r) (given set (exchange (now (seed .entry)) (now (message .entry)))) (now (received .entry)) ⌝ }
+    ensures cleared { λ _. ⌜ now (work .exit) ≡ shareAKeyWork set (now (seed .entry)) (now (message .entry))
+        (now (public .entry)) (now (secret .entry)) (now (sealed .entry)) (now (sent .entry)) (now (received .entry)) (now (work .entry)) ⌝ }
+    ensures claim { λ r. ⌜ (outcome r ≡ accepted → Demand3 set (exchange (now (seed .entry)) (now (message .entry)))) ⌝ }
 {
+    let checked = exchange::set_checked(set);
+    let Answer::Done = checked else {
+        return checked;
+    };
+    if !fits(
+        set,
+        seed.len(),
+        message.len(),
+        public.len(),
+        secret.len(),
+        sealed.len(),
+        sent.len(),
+        received.len(),
+        work.len(),
+    ) {
+        return Answer::Refused(2, 0);
+    }
     let made = exchange::key(set, seed, public, secret, work);
     let Answer::Done = made else {
         return made;
     };
-    let closed = exchange::encapsulate(set, public, message, sealed, office, work);
-    let Answer::Done = closed else {
-        return closed;
-    };
-    exchange::decapsulate(set, secret, sealed, lock, work)
+    exchange::encapsulate(set, public, message, sealed, sent, work);
+    exchange::decapsulate(set, secret, sealed, received, work)
 }

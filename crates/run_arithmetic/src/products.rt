@@ -90,8 +90,8 @@ fn both(set: usize, a: &[u32], b: &[u32], lengths: [usize; 3]) {
     transformed(set, first, second, lengths[2], size_of(set));
 }
 
-// Lengths of a, of b and of the result: the shortest, those around 4,096, empty slices, and a b that is one short and one long.
-const LENGTHS: [[usize; 3]; 21] = [
+// Lengths of a, of b and of the result: the shortest, those around 4,096, empty slices, and each slice one short and one long.
+const LENGTHS: [[usize; 3]; 25] = [
     [1, 1, 1],
     [1, 2, 2],
     [2, 2, 1],
@@ -113,12 +113,16 @@ const LENGTHS: [[usize; 3]; 21] = [
     [4, 3, 0],
     [3, 4, 3],
     [3, 6, 3],
+    [2, 5, 3],
+    [4, 5, 3],
+    [3, 5, 2],
+    [3, 5, 4],
 ];
 
 // Each of these lengths.
 fn all_lengths(set: usize, a: &[u32], b: &[u32]) {
     let mut i: usize = 0;
-    while i < 21 {
+    while i < 25 {
         both(set, a, b, LENGTHS[i]);
         i += 1;
     }

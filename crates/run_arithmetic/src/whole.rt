@@ -1,9 +1,61 @@
-// Key, sealing and reading on numbers: the bench figures, generated numbers of three more sets, every refusal, and the bounds of a multiplier.
+// Key, sealing and reading on numbers: every set, each slice one short and one long, every refusal, multipliers at and above both bounds, and the ties
+// of a reading.
 use crate::inputs;
 use calls::Answer;
+ghost use Prim.Native.Nat.{_<_};
 
-// A set, its modulus, the lengths of a, s, e (which b has too), r, a message (which c2 and the bits read have too) and c1, an error that is too
-// large, and a multiplier that is too large at the last position.
+// Of each set, and of one past the last: the lengths of a, s, e (which b has too), r, a message (which c2 and the bits read have too) and c1, the first
+// position of the second bound of a multiplier, and the bits of the two bounds.
+const SETS: [[usize; 9]; 14] = [
+    [2, 4, 3, 2, 2, 3, 2, 1, 1],
+    [6840, 1194, 5110, 2560, 256, 939, 1488, 7, 8],
+    [6400, 1534, 5880, 3840, 256, 1279, 1496, 5, 6],
+    [9216, 1790, 6903, 4608, 256, 1535, 2568, 5, 6],
+    [11520, 2046, 6903, 4608, 256, 1791, 3816, 7, 8],
+    [10752, 2558, 7161, 5376, 256, 2303, 3384, 8, 9],
+    [14336, 3326, 8953, 7168, 256, 3071, 3848, 8, 9],
+    [6840, 1194, 5110, 2560, 256, 939, 328, 7, 8],
+    [7200, 1534, 6615, 4320, 256, 1279, 4168, 5, 6],
+    [10240, 1790, 7670, 5120, 256, 1535, 208, 4, 5],
+    [12800, 2046, 7670, 5120, 256, 1791, 2248, 6, 7],
+    [12288, 2558, 8184, 6144, 256, 2303, 4704, 7, 8],
+    [16384, 3326, 10232, 8192, 256, 3071, 5904, 7, 8],
+    [2, 4, 3, 2, 2, 3, 2, 1, 1],
+];
+
+// Their moduli.
+const MODULI: [u32; 14] = [
+    17,
+    240641,
+    84481,
+    86017,
+    301057,
+    737281,
+    1198081,
+    471041,
+    115201,
+    118273,
+    430081,
+    783361,
+    1198081,
+    17,
+];
+
+// Multipliers at the bound of so many bits, and above it.
+const AROUND: [[i32; 4]; 10] = [
+    [1, -1, 2, -2],
+    [2, -2, 3, -3],
+    [4, -4, 5, -5],
+    [8, -8, 9, -9],
+    [16, -16, 17, -17],
+    [32, -32, 33, -33],
+    [64, -64, 65, -65],
+    [128, -128, 129, -129],
+    [256, -256, 257, -257],
+    [512, -512, 513, -513],
+];
+
+// The numbers of one set by their names; `first` and `second` are multipliers around the two bounds.
 struct Row {
     set: usize,
     q: u32,
@@ -13,73 +65,32 @@ struct Row {
     r: usize,
     message: usize,
     c1: usize,
-    error: i32,
-    multiplier: i32,
+    position: usize,
+    first: [i32; 4],
+    second: [i32; 4],
 }
 
-// The last set is none.
-const ROWS: [Row; 5] = [
+// The row of a set.
+fn row_of(set: usize) -> Row {
+    let at = report::at_most(set, 13);
+    let numbers = SETS[at];
+    let q = MODULI[at];
+    let first = AROUND[report::at_most(numbers[7], 9)];
+    let second = AROUND[report::at_most(numbers[8], 9)];
     Row {
-        set: 0,
-        q: 17,
-        a: 2,
-        s: 4,
-        e: 3,
-        r: 2,
-        message: 2,
-        c1: 3,
-        error: 2,
-        multiplier: 3,
-    },
-    Row {
-        set: 1,
-        q: 240641,
-        a: 6840,
-        s: 1194,
-        e: 5110,
-        r: 2560,
-        message: 256,
-        c1: 939,
-        error: -5,
-        multiplier: -257,
-    },
-    Row {
-        set: 9,
-        q: 118273,
-        a: 10240,
-        s: 1790,
-        e: 7670,
-        r: 5120,
-        message: 256,
-        c1: 1535,
-        error: 5,
-        multiplier: 33,
-    },
-    Row {
-        set: 12,
-        q: 1198081,
-        a: 16384,
-        s: 3326,
-        e: 10232,
-        r: 8192,
-        message: 256,
-        c1: 3071,
-        error: -5,
-        multiplier: 257,
-    },
-    Row {
-        set: 13,
-        q: 17,
-        a: 2,
-        s: 4,
-        e: 3,
-        r: 2,
-        message: 2,
-        c1: 3,
-        error: 2,
-        multiplier: -3,
-    },
-];
+        set,
+        q,
+        a: numbers[0],
+        s: numbers[1],
+        e: numbers[2],
+        r: numbers[3],
+        message: numbers[4],
+        c1: numbers[5],
+        position: numbers[6],
+        first,
+        second,
+    }
+}
 
 // Errors and multipliers of set 0 and of the others.
 const BENCH_ERRORS: [i32; 16] = [1, 0, -1, 0, 0, 0, 0, 0, 0, 0, 0, 0, 0, 0, 0, 0];
@@ -90,23 +101,24 @@ const ERRORS: [i32; 16] = [4, 0, -4, 1, -1, 2, -3, 0, 3, -2, 1, 0, -1, 4, -4, 2]
 
 const MULTIPLIERS: [i32; 16] = [16, -16, 1, -1, 5, -9, 12, -3, 2, -2, 7, -11, 15, -6, 4, -8];
 
-// A length, one less where slice number `short` is this one.
-fn cut(length: usize, short: usize, slice: usize) -> usize {
-    if short == slice {
+// What case number i of a call changes: first one length after the other, then one wrong number after the other, then a length and a number at once.
+fn case(i: usize, lengths: usize, wrongs: usize) -> [usize; 2] {
+    if i < lengths {
+        return [i + 1, 0];
+    }
+    if i - lengths < wrongs {
+        return [0, i - lengths + 1];
+    }
+    [1, 1]
+}
+
+// The last place of a slice where the wrong number is to stand there, or one past every slice.
+fn last(length: usize, wrong: usize, this: usize) -> usize {
+    if wrong == this {
         inputs::before(length)
     } else {
-        length
+        99999
     }
-}
-
-// A place, or one past every slice where the wrong number is not to stand there.
-fn place(x: usize, wrong: usize, this: usize) -> usize {
-    if wrong == this { x } else { 99999 }
-}
-
-// The last place of a slice, where the wrong number is to stand there.
-fn last(length: usize, wrong: usize, this: usize) -> usize {
-    place(inputs::before(length), wrong, this)
 }
 
 // Puts the bench figures in front of numbers, where the set is 0.
@@ -120,8 +132,8 @@ fn put_figures(set: usize, values: &mut [u32], figures: [u32; 4]) {
 }
 
 // Polynomials a, with the modulus at a place.
-fn polynomials(row: Row, wrong: usize) -> [u32; 16384] {
-    let mut a = [0u32; 16384];
+fn polynomials(row: Row, wrong: usize) -> [u32; 16385] {
+    let mut a = [0u32; 16385];
     inputs::residues(&mut a, 1, row.q);
     put_figures(row.set, &mut a, [3, 5, 0, 0]);
     inputs::put(&mut a, wrong, row.q);
@@ -129,8 +141,8 @@ fn polynomials(row: Row, wrong: usize) -> [u32; 16384] {
 }
 
 // A secret s, with the modulus at a place.
-fn secret(row: Row, wrong: usize) -> [u32; 3326] {
-    let mut s = [0u32; 3326];
+fn secret(row: Row, wrong: usize) -> [u32; 3327] {
+    let mut s = [0u32; 3327];
     inputs::residues(&mut s, 2, row.q);
     put_figures(row.set, &mut s, [1, 2, 3, 4]);
     inputs::put(&mut s, wrong, row.q);
@@ -138,41 +150,77 @@ fn secret(row: Row, wrong: usize) -> [u32; 3326] {
 }
 
 // Message bits, with 2 at a place.
-fn message_bits(set: usize, wrong: usize) -> [u32; 256] {
-    let mut message = [0u32; 256];
+fn message_bits(set: usize, wrong: usize) -> [u32; 257] {
+    let mut message = [0u32; 257];
     inputs::residues(&mut message, 3, 2);
     put_figures(set, &mut message, [1, 0, 0, 0]);
     inputs::put(&mut message, wrong, 2);
     message
 }
 
-// The numbers that errors of a set repeat.
-fn error_pattern(set: usize) -> [i32; 16] {
-    if set == 0 { BENCH_ERRORS } else { ERRORS }
+// Whether a set has the bounds of set 0.
+fn is_bench(set: usize) -> bool {
+    set == 0 || 12 < set
 }
 
-// Errors, with a number at a place.
-fn errors(set: usize, wrong: usize, value: i32) -> [i32; 10232] {
-    let mut e = [0i32; 10232];
-    inputs::repeat(&mut e, error_pattern(set));
-    inputs::put_signed(&mut e, wrong, value);
+// The numbers that errors of a set repeat.
+fn error_pattern(set: usize) -> [i32; 16] {
+    if is_bench(set) { BENCH_ERRORS } else { ERRORS }
+}
+
+// Errors, the last of which is too large (4) or too small (5).
+fn errors(row: Row, wrong: usize) -> [i32; 10233] {
+    let mut e = [0i32; 10233];
+    let bench = is_bench(row.set);
+    inputs::repeat(&mut e, error_pattern(row.set));
+    inputs::put_signed(&mut e, last(row.e, wrong, 4), if bench { 2 } else { 5 });
+    inputs::put_signed(&mut e, last(row.e, wrong, 5), if bench { -2 } else { -5 });
     e
 }
 
 // The numbers that multipliers of a set repeat.
 fn multiplier_pattern(set: usize) -> [i32; 16] {
-    if set == 0 {
+    if is_bench(set) {
         BENCH_MULTIPLIERS
     } else {
         MULTIPLIERS
     }
 }
 
-// Multipliers, with a number at a place.
-fn multipliers(set: usize, wrong: usize, value: i32) -> [i32; 8192] {
-    let mut r = [0i32; 8192];
-    inputs::repeat(&mut r, multiplier_pattern(set));
-    inputs::put_signed(&mut r, wrong, value);
+// Which multiplier around the first bound stands at its last position.
+fn first_of(wrong: usize) -> usize
+    ensures { λ r. ⌜ r < 4 ⌝ }
+{
+    match wrong {
+        3 => 2,
+        4 => 3,
+        10 => 0,
+        _ => 1,
+    }
+}
+
+// Which multiplier around the second bound stands at its first position.
+fn second_of(wrong: usize) -> usize
+    ensures { λ r. ⌜ r < 4 ⌝ }
+{
+    match wrong {
+        5 => 2,
+        6 => 3,
+        10 => 1,
+        _ => 0,
+    }
+}
+
+// Multipliers: at both bounds with one sign, or with the other (10); above the first bound (3, 4) or the second (5, 6); 0 as the first (7) or the last (8).
+fn multipliers(row: Row, wrong: usize) -> [i32; 8193] {
+    let mut r = [0i32; 8193];
+    let first = row.first;
+    let second = row.second;
+    inputs::repeat(&mut r, multiplier_pattern(row.set));
+    inputs::put_signed(&mut r, inputs::before(row.position), first[first_of(wrong)]);
+    inputs::put_signed(&mut r, row.position, second[second_of(wrong)]);
+    inputs::put_signed(&mut r, if wrong == 7 { 0 } else { 99999 }, 0);
+    inputs::put_signed(&mut r, last(row.r, wrong, 8), 0);
     r
 }
 
@@ -211,67 +259,54 @@ fn key_through(
     )
 }
 
-// The lengths of a, s, e and b, with one of them short (1 to 4).
-fn key_lengths(row: Row, short: usize) -> [usize; 4] {
+// The lengths of a, s, e and b, with one of them changed.
+fn key_lengths(row: Row, change: usize) -> [usize; 4] {
     [
-        cut(row.a, short, 1),
-        cut(row.s, short, 2),
-        cut(row.e, short, 3),
-        cut(row.e, short, 4),
+        report::changed(row.a, 0, change),
+        report::changed(row.s, 1, change),
+        report::changed(row.e, 2, change),
+        report::changed(row.e, 3, change),
     ]
 }
 
 // Key of these inputs, and its line.
-fn key_of(row: Row, short: usize, a: &[u32], s: &[u32], e: &[i32]) -> [u32; 10232] {
-    let mut b = [7u32; 10232];
-    let lengths = key_lengths(row, short);
+fn key_of(row: Row, change: usize, a: &[u32], s: &[u32], e: &[i32]) -> [u32; 10233] {
+    let mut b = [7u32; 10233];
+    let lengths = key_lengths(row, change);
     let answer = key_through(row.set, lengths, a, s, e, &mut b);
     call(b"key", row.set, lengths);
     left(answer, &b);
     b
 }
 
-// Key with one slice short or with a wrong number: the first of a (1), the last of a (2), the last of s (3), the last of e (4).
-fn key(row: Row, case: [usize; 2]) -> [u32; 10232] {
+// Key with one length changed or with a wrong number: the first of a (1), the last of a (2), the last of s (3), the last of e (4, 5).
+fn key(row: Row, case: [usize; 2]) -> [u32; 10233] {
     let wrong = case[1];
     let at = if wrong == 1 { 0 } else { last(row.a, wrong, 2) };
     let a = polynomials(row, at);
     let s = secret(row, last(row.s, wrong, 3));
-    let e = errors(row.set, last(row.e, wrong, 4), row.error);
+    let e = errors(row, wrong);
     key_of(row, case[0], &a, &s, &e)
 }
 
-// The slice that is one short and the wrong number of each case of a key that is refused.
-const KEYS: [[usize; 2]; 9] = [
-    [1, 0],
-    [2, 0],
-    [3, 0],
-    [4, 0],
-    [0, 1],
-    [0, 2],
-    [0, 3],
-    [0, 4],
-    [1, 1],
-];
-
-// Each of these.
+// Each key that is refused: four slices one long and one short, five wrong numbers, both at once.
 fn refused_keys(row: Row) {
     let mut i: usize = 0;
-    while i < 9 {
-        key(row, KEYS[i]);
+    while i < 14 {
+        key(row, case(i, 8, 5));
         i += 1;
     }
 }
 
-// The lengths of a, b, r, message, c1 and c2 in a sealing, with one of them short (1 to 6).
-fn sealing_lengths(row: Row, short: usize) -> [usize; 6] {
+// The lengths of a, b, r, message, c1 and c2 in a sealing, with one of them changed.
+fn sealing_lengths(row: Row, change: usize) -> [usize; 6] {
     [
-        cut(row.a, short, 1),
-        cut(row.e, short, 2),
-        cut(row.r, short, 3),
-        cut(row.message, short, 4),
-        cut(row.c1, short, 5),
-        cut(row.message, short, 6),
+        report::changed(row.a, 0, change),
+        report::changed(row.e, 1, change),
+        report::changed(row.r, 2, change),
+        report::changed(row.message, 3, change),
+        report::changed(row.c1, 4, change),
+        report::changed(row.message, 5, change),
     ]
 }
 
@@ -312,89 +347,42 @@ fn sealing_line(set: usize, lengths: [usize; 6], answer: Answer, c1: &[u32], c2:
     report::end();
 }
 
-// What a case of a sealing changes: the slice that is one short, the slice that ends in a wrong number (1: a, 2: b, 5: message), and a multiplier
-// with the position where it is to stand.
-struct Change {
-    short: usize,
-    wrong: usize,
-    position: usize,
-    multiplier: i32,
-}
-
-// Sealing with a change of all but b.
-fn sealing_with(row: Row, change: Change, b: &[u32], c1: &mut [u32], c2: &mut [u32]) {
-    let a = polynomials(row, last(row.a, change.wrong, 1));
-    let r = multipliers(row.set, change.position, change.multiplier);
-    let message = message_bits(row.set, last(row.message, change.wrong, 5));
-    let lengths = sealing_lengths(row, change.short);
+// Sealing with one length changed, or with a wrong number at the end of a (1) or of the message (9) or among the multipliers.
+fn sealing_of(row: Row, case: [usize; 2], b: &[u32], c1: &mut [u32], c2: &mut [u32]) {
+    let wrong = case[1];
+    let a = polynomials(row, last(row.a, wrong, 1));
+    let r = multipliers(row, wrong);
+    let message = message_bits(row.set, last(row.message, wrong, 9));
+    let lengths = sealing_lengths(row, case[0]);
     let answer = seal(row.set, lengths, &a, b, &r, &message, c1, c2);
     sealing_line(row.set, lengths, answer, c1, c2);
 }
 
-// The same into numbers of its own.
-fn sealing(row: Row, change: Change, b: &[u32]) {
-    let mut c1 = [7u32; 3071];
-    let mut c2 = [7u32; 256];
-    sealing_with(row, change, b, &mut c1, &mut c2);
-}
-
-// The slice that is one short and the wrong number of each case of a sealing that is refused.
-const SEALINGS: [[usize; 2]; 12] = [
-    [1, 0],
-    [2, 0],
-    [3, 0],
-    [4, 0],
-    [5, 0],
-    [6, 0],
-    [0, 1],
-    [0, 2],
-    [0, 3],
-    [0, 4],
-    [0, 5],
-    [6, 1],
-];
-
-// The change of a case: 0 as the first of r (3), or the last of r too large (4).
-fn change_of(row: Row, case: [usize; 2]) -> Change {
-    if case[1] == 3 {
-        return Change {
-            short: 0,
-            wrong: 0,
-            position: 0,
-            multiplier: 0,
-        };
-    }
-    Change {
-        short: case[0],
-        wrong: case[1],
-        position: last(row.r, case[1], 4),
-        multiplier: row.multiplier,
-    }
-}
-
-// A case of a sealing that is refused, with the last number of b wrong in one of them (2).
-fn refused_sealing(row: Row, case: [usize; 2], b: [u32; 10232]) {
+// The same, or with a wrong number at the end of b (2), into numbers of its own.
+fn sealing(row: Row, case: [usize; 2], b: [u32; 10233]) {
     let mut changed = b;
+    let mut c1 = [7u32; 3072];
+    let mut c2 = [7u32; 257];
     inputs::put(&mut changed, last(row.e, case[1], 2), row.q);
-    sealing(row, change_of(row, case), &changed);
+    sealing_of(row, case, &changed, &mut c1, &mut c2);
 }
 
-// Each of these.
-fn refused_sealings(row: Row, b: [u32; 10232]) {
+// Each of these: six slices one long and one short, nine wrong numbers and one choice of right ones, a length and a number at once.
+fn all_sealings(row: Row, b: [u32; 10233]) {
     let mut i: usize = 0;
-    while i < 12 {
-        refused_sealing(row, SEALINGS[i], b);
+    while i < 23 {
+        sealing(row, case(i, 12, 10), b);
         i += 1;
     }
 }
 
-// The lengths of c1, c2, s and bits, with one of them short (1 to 4).
-fn reading_lengths(row: Row, short: usize) -> [usize; 4] {
+// The lengths of c1, c2, s and bits, with one of them changed.
+fn reading_lengths(row: Row, change: usize) -> [usize; 4] {
     [
-        cut(row.c1, short, 1),
-        cut(row.message, short, 2),
-        cut(row.s, short, 3),
-        cut(row.message, short, 4),
+        report::changed(row.c1, 0, change),
+        report::changed(row.message, 1, change),
+        report::changed(row.s, 2, change),
+        report::changed(row.message, 3, change),
     ]
 }
 
@@ -416,9 +404,9 @@ fn read(
     )
 }
 
-// Reading with one slice short or with a wrong number at the end of s (3).
+// Reading with one length changed or with a wrong number at the end of s (3).
 fn reading_of(row: Row, case: [usize; 2], c1: &[u32], c2: &[u32]) {
-    let mut bits = [7u32; 256];
+    let mut bits = [7u32; 257];
     let s = secret(row, last(row.s, case[1], 3));
     let lengths = reading_lengths(row, case[0]);
     let answer = read(row.set, lengths, c1, c2, &s, &mut bits);
@@ -427,7 +415,7 @@ fn reading_of(row: Row, case: [usize; 2], c1: &[u32], c2: &[u32]) {
 }
 
 // The same, or with a wrong number at the end of c1 (1) or of c2 (2).
-fn reading(row: Row, case: [usize; 2], c1: [u32; 3071], c2: [u32; 256]) {
+fn reading(row: Row, case: [usize; 2], c1: [u32; 3072], c2: [u32; 257]) {
     let mut one = c1;
     let mut other = c2;
     inputs::put(&mut one, last(row.c1, case[1], 1), row.q);
@@ -435,153 +423,63 @@ fn reading(row: Row, case: [usize; 2], c1: [u32; 3071], c2: [u32; 256]) {
     reading_of(row, case, &one, &other);
 }
 
-// The slice that is one short and the wrong number of each case of a reading.
-const READINGS: [[usize; 2]; 9] = [
-    [1, 0],
-    [2, 0],
-    [3, 0],
-    [4, 0],
-    [0, 1],
-    [0, 2],
-    [0, 3],
-    [4, 3],
-    [0, 0],
-];
-
-// Each case of a reading.
-fn all_readings(row: Row, c1: [u32; 3071], c2: [u32; 256]) {
+// Each reading that is refused: four slices one long and one short, three wrong numbers, both at once.
+fn refused_readings(row: Row, c1: [u32; 3072], c2: [u32; 257]) {
     let mut i: usize = 0;
-    while i < 9 {
-        reading(row, READINGS[i], c1, c2);
+    while i < 12 {
+        reading(row, case(i, 8, 3), c1, c2);
         i += 1;
     }
 }
 
 // A sealing with nothing changed, and the readings of it.
-fn sealed(row: Row, b: [u32; 10232]) {
-    let mut c1 = [7u32; 3071];
-    let mut c2 = [7u32; 256];
-    let none = Change {
-        short: 0,
-        wrong: 0,
-        position: 99999,
-        multiplier: 0,
-    };
-    sealing_with(row, none, &b, &mut c1, &mut c2);
-    all_readings(row, c1, c2);
+fn sealed(row: Row, b: [u32; 10233]) {
+    let mut c1 = [7u32; 3072];
+    let mut c2 = [7u32; 257];
+    sealing_of(row, [0, 0], &b, &mut c1, &mut c2);
+    refused_readings(row, c1, c2);
+    reading(row, [0, 0], c1, c2);
 }
 
-// Every call with one row: keys, sealings with the key, readings of the last sealing.
+// The number before another, or 0.
+fn lower(x: u32) -> u32 {
+    if x == 0 { 0 } else { x - 1 }
+}
+
+// Numbers of c2 at both ties of the rounding, 2w = h and 2w = 3h, and beside them: with a c1 of zeros these are the numbers that are rounded.
+fn tied(q: u32) -> [u32; 257] {
+    let low = q / 4;
+    let high = q / 2 + q / 4;
+    let mut c2 = [0u32; 257];
+    inputs::put(&mut c2, 0, low);
+    inputs::put(&mut c2, 1, high);
+    inputs::put(&mut c2, 2, lower(low));
+    inputs::put(&mut c2, 3, low + 1);
+    inputs::put(&mut c2, 4, lower(high));
+    inputs::put(&mut c2, 5, high + 1);
+    c2
+}
+
+// Reads them.
+fn ties(row: Row) {
+    report::text(b"tie ");
+    reading(row, [0, 0], [0u32; 3072], tied(row.q));
+}
+
+// Every call with one row: keys, sealings with the key, readings of the last sealing, and the ties.
 fn one_row(row: Row) {
     refused_keys(row);
     let b = key(row, [0, 0]);
-    refused_sealings(row, b);
+    all_sealings(row, b);
     sealed(row, b);
+    ties(row);
 }
 
-// Every row.
-fn all_rows() {
-    let mut i: usize = 0;
-    while i < 5 {
-        one_row(ROWS[i]);
-        i += 1;
-    }
-}
-
-// A multiplier: 1 where it is negative, its size, and the multiplier.
-struct Multiplier {
-    negative: u64,
-    size: u64,
-    value: i32,
-}
-
-// Multipliers just at and just above the two bounds of set 9, 16 and 32, and 0.
-const BOUNDS: [Multiplier; 9] = [
-    Multiplier {
-        negative: 0,
-        size: 16,
-        value: 16,
-    },
-    Multiplier {
-        negative: 1,
-        size: 16,
-        value: -16,
-    },
-    Multiplier {
-        negative: 0,
-        size: 17,
-        value: 17,
-    },
-    Multiplier {
-        negative: 1,
-        size: 17,
-        value: -17,
-    },
-    Multiplier {
-        negative: 0,
-        size: 32,
-        value: 32,
-    },
-    Multiplier {
-        negative: 1,
-        size: 32,
-        value: -32,
-    },
-    Multiplier {
-        negative: 0,
-        size: 33,
-        value: 33,
-    },
-    Multiplier {
-        negative: 1,
-        size: 33,
-        value: -33,
-    },
-    Multiplier {
-        negative: 0,
-        size: 0,
-        value: 0,
-    },
-];
-
-// A sealing with a multiplier at a position, after a line that says both; b is filled with residues.
-fn bound(row: Row, position: usize, multiplier: Multiplier) {
-    let mut b = [0u32; 10232];
-    report::text(b"multiplier");
-    report::number(position as u64);
-    report::number(multiplier.negative);
-    report::number(multiplier.size);
-    report::end();
-    inputs::residues(&mut b, 4, row.q);
-    sealing(
-        row,
-        Change {
-            short: 0,
-            wrong: 0,
-            position,
-            multiplier: multiplier.value,
-        },
-        &b,
-    );
-}
-
-// A multiplier at the last position of the first bound of set 9 and at the first position of the second.
-fn both_bounds(multiplier: Multiplier) {
-    bound(ROWS[2], 207, multiplier);
-    bound(ROWS[2], 208, multiplier);
-}
-
-// Each of these multipliers.
-fn all_bounds() {
-    let mut i: usize = 0;
-    while i < 9 {
-        both_bounds(BOUNDS[i]);
-        i += 1;
-    }
-}
-
-// Every row, then the bounds.
+// Every set, and one past the last.
 pub fn run() {
-    all_rows();
-    all_bounds();
+    let mut set: usize = 0;
+    while set < 14 {
+        one_row(row_of(set));
+        set += 1;
+    }
 }

@@ -93,20 +93,39 @@ fn around(edge: usize) {
     }
 }
 
-// Slices at the limit, and past it.
-fn limits() {
-    shake(65536, 65536);
-    shake(65537, 10);
-    shake(10, 65537);
-    kmac([65536, 65536, 65536, 65536]);
+// The lengths of four slices: one byte, but for one of them.
+fn one_length(slice: usize, n: usize) -> [usize; 4] {
+    [
+        if slice == 0 { n } else { 1 },
+        if slice == 1 { n } else { 1 },
+        if slice == 2 { n } else { 1 },
+        if slice == 3 { n } else { 1 },
+    ]
 }
 
-// One slice of KMAC after the other past the limit.
-fn kmac_limits() {
-    kmac([65537, 1, 1, 1]);
-    kmac([1, 65537, 1, 1]);
-    kmacxof([1, 1, 65537, 1]);
-    kmacxof([1, 1, 1, 65537]);
+// One slice of each function with a length; SHAKE256 has only an input and an output.
+fn one_slice(slice: usize, n: usize) {
+    let lengths = one_length(slice, n);
+    kmac(lengths);
+    kmacxof(lengths);
+    if slice < 2 {
+        shake(lengths[0], lengths[1]);
+    }
+}
+
+// Each slice one byte below the limit of 65,536 bytes, at it, and one byte past it.
+fn limits() {
+    let mut i: usize = 0;
+    while i < 12 {
+        one_slice(i % 4, 65535 + i / 4);
+        i += 1;
+    }
+}
+
+// All slices at the limit.
+fn all_at_limit() {
+    shake(65536, 65536);
+    kmac([65536, 65536, 65536, 65536]);
 }
 
 // Consecutive numbers from `start` on.
@@ -159,5 +178,5 @@ pub fn run() {
     around(132);
     around(268);
     limits();
-    kmac_limits();
+    all_at_limit();
 }

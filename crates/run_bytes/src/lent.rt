@@ -194,6 +194,13 @@ fn multiplier_limits() {
     multipliers([12, 9216, 18446744073709551615, 2]);
 }
 
+// Counts of results one below the limit.
+fn one_under() {
+    residues([1, 12285, 4095, 0, 0]);
+    errors(1, 4095, 4095);
+    multipliers([12, 9216, 4096, 4095]);
+}
+
 // Every set, and one past the last, with each draw.
 fn every_set() {
     let mut set: usize = 0;
@@ -212,4 +219,5 @@ pub fn run() {
     all_errors();
     all_positions();
     multiplier_limits();
+    one_under();
 }

@@ -21,7 +21,7 @@ fn within(x: usize, least: usize, most: usize) -> usize
 }
 
 // The numbers of a set from 1 to 12, with the rules that the draws ask for.
-fn parameters(set: usize) -> Parameters
+pub fn parameters(set: usize) -> Parameters
     ensures { λ p. ⌜ Rules p × ByteRules p × (0 < p .q) ⌝ }
 {
     let known = within(set, 1, 12);
@@ -49,7 +49,28 @@ fn advance(given: Advance) {
     }
 }
 
-// Draws residues from a seed; the checksum covers the numbers past the results too, which stay as they were.
+// Draws residues from a seed.
+pub fn residues_into(
+    set: usize,
+    seed: &[u8],
+    size: usize,
+    first: u32,
+    wanted: usize,
+    out: &mut [u32],
+) -> Advance
+    requires { ⌜ (length (now seed) ≤ 65536) × (length (now out) ≡ 10240) ⌝ }
+{
+    let count = within(wanted, 1, 10240);
+    samplers::residues_from(
+        parameters(set),
+        seed,
+        within(size, 384, 10158),
+        first % 1000,
+        &mut out[0..count],
+    )
+}
+
+// The same, and the checksum, which covers the numbers past the results too: they stay as they were.
 fn draw_residues(
     set: usize,
     seed: [u8; 32],
@@ -60,15 +81,7 @@ fn draw_residues(
 )
     requires { ⌜ length (now out) ≡ 10240 ⌝ }
 {
-    let count = within(wanted, 1, 10240);
-    let answer = samplers::residues_from(
-        parameters(set),
-        &seed,
-        within(size, 384, 10158),
-        first % 1000,
-        &mut out[0..count],
-    );
-    advance(answer);
+    advance(residues_into(set, &seed, size, first, wanted, out));
     report::number_sum(out);
 }
 
@@ -102,7 +115,7 @@ fn error_count(p: Parameters) -> usize
 }
 
 // How many multipliers one sealing of a set has.
-fn multiplier_count(p: Parameters) -> usize
+pub fn multiplier_count(p: Parameters) -> usize
     requires { ⌜ Rules p ⌝ }
     ensures { λ r. ⌜ (r ≡ multiplierCount p) × (r ≤ 10240) ⌝ }
 {
@@ -110,13 +123,12 @@ fn multiplier_count(p: Parameters) -> usize
 }
 
 // Draws the errors of one key.
-fn draw_errors(set: usize, seed: [u8; 32], counter: u32, out: &mut [u32])
-    requires { ⌜ length (now out) ≡ 10240 ⌝ }
+pub fn errors_into(set: usize, seed: &[u8], counter: u32, out: &mut [u32])
+    requires { ⌜ (length (now seed) ≤ 65536) × (length (now out) ≡ 10240) ⌝ }
 {
     let p = parameters(set);
     let count = error_count(p);
-    samplers::errors_from(p, &seed, counter, &mut out[0..count]);
-    report::number_sum(out);
+    samplers::errors_from(p, seed, counter, &mut out[0..count]);
 }
 
 // The same after the numbers of the case.
@@ -125,18 +137,18 @@ fn errors(set: usize, seed: [u8; 32], counter: u32) {
     report::text(b"errors");
     report::number(set as u64);
     report::number(counter as u64);
-    draw_errors(set, seed, counter, &mut out);
+    errors_into(set, &seed, counter, &mut out);
+    report::number_sum(&out);
     report::end();
 }
 
 // Draws the multipliers of one sealing.
-fn draw_multipliers(set: usize, seed: [u8; 32], out: &mut [u32])
-    requires { ⌜ length (now out) ≡ 10240 ⌝ }
+pub fn multipliers_into(set: usize, seed: &[u8], out: &mut [u32])
+    requires { ⌜ (length (now seed) ≤ 65536) × (length (now out) ≡ 10240) ⌝ }
 {
     let p = parameters(set);
     let count = multiplier_count(p);
-    samplers::multipliers_from(p, &seed, &mut out[0..count]);
-    report::number_sum(out);
+    samplers::multipliers_from(p, seed, &mut out[0..count]);
 }
 
 // The same after the set.
@@ -144,7 +156,8 @@ fn multipliers(set: usize, seed: [u8; 32]) {
     let mut out = [7u32; 10240];
     report::text(b"multipliers");
     report::number(set as u64);
-    draw_multipliers(set, seed, &mut out);
+    multipliers_into(set, &seed, &mut out);
+    report::number_sum(&out);
     report::end();
 }
 

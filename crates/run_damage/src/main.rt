@@ -1,4 +1,4 @@
-// Makes random and damaged calls of every open call: random sets, lengths that are seldom wrong, keys, ciphertexts and numbers that are damaged. Every line
+// Makes random and damaged calls of every open call but the two of round_trip: random sets, lengths that are seldom wrong, keys, ciphertexts and numbers that are damaged. Every line
 // holds the answer of one call and checksums of all that was lent to be written and of what lies behind it.
 mod changes;
 mod drawn;

@@ -196,17 +196,9 @@ fn case_line(
     }
 }
 
-// Fills the inputs of one of two choices: key seed, sealing seed and message.
-fn fill_inputs(inputs: &mut [u8], choice: usize) {
-    let start = 5 + 72 * (choice % 2);
-    report::fill_bytes(report::front_mut(inputs, 32), start);
-    report::fill_bytes(report::part_mut(inputs, 32, 32), start + 1);
-    report::fill_bytes(report::part_mut(inputs, 64, 32), start + 2);
-}
-
 // Line number i of a scheme: 36 lines for each choice of inputs, two choices for each set.
 pub fn line(is_exchange: bool, i: usize, public: &mut [u8], secret: &mut [u8], sealed: &mut [u8]) {
     let mut inputs = [0u8; 97];
-    fill_inputs(&mut inputs, i / 36);
+    schemes::fill_inputs(&mut inputs, i / 36);
     case_line(is_exchange, i / 72, i % 36, &inputs, public, secret, sealed);
 }

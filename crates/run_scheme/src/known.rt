@@ -1,5 +1,7 @@
-// The known answers of an independent model. A case has the number of its set, key seed, sealing seed and message.
+// The known answers of an independent model. A case has the number of its set, key seed, sealing seed and message, as a noise sheet's input has.
 use crate::schemes;
+use crate::sheets;
+use crate::unpacked;
 
 // Prints a name and bytes.
 fn line(name: &[u8], bytes: &[u8]) {
@@ -103,6 +105,35 @@ fn set_of(byte: u8) -> usize {
     byte as usize
 }
 
+// The first numbers of c2 before packing of a case of the encryption scheme.
+fn print_unpacked(set: usize, inputs: &[u8], public: &[u8]) {
+    let mut numbers = [0u32; 256];
+    let mut work = [0u32; 25080];
+    if 6 < set {
+        return;
+    }
+    unpacked::write(
+        set,
+        report::front(public, schemes::entry(set, 0)),
+        report::part(inputs, 64, 32),
+        report::part(inputs, 32, 32),
+        &mut numbers,
+        report::numbers_mut(&mut work, 0, schemes::entry(set, 3)),
+    );
+    unpacked::line(
+        b"c2_before_packing_first_8",
+        report::numbers(&numbers, 0, 8),
+    );
+}
+
+// The sheet of a case of the encryption scheme.
+fn print_noise(set: usize, case: &[u8]) {
+    let mut work = [0u32; 22521];
+    if set <= 6 {
+        sheets::print_sheet(case, &mut work);
+    }
+}
+
 // The answers of one case.
 pub fn run(case: &[u8]) {
     let mut public = [0u8; 26912];
@@ -114,4 +145,6 @@ pub fn run(case: &[u8]) {
     make_keys(set, inputs, &mut public, &mut secret);
     seal(set, inputs, &public, &mut sealed);
     open_twice(set, &secret, &mut sealed);
+    print_unpacked(set, inputs, &public);
+    print_noise(set, case);
 }

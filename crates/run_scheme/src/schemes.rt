@@ -32,17 +32,23 @@ fn cut(bytes: &[u8], set: usize, column: usize, slice: usize, change: usize) -> 
 }
 
 // The same of bytes to be written.
-fn cut_mut(bytes: &mut [u8], set: usize, column: usize, slice: usize, change: usize) -> &mut [u8] {
+pub fn cut_mut(
+    bytes: &mut [u8],
+    set: usize,
+    column: usize,
+    slice: usize,
+    change: usize,
+) -> &mut [u8] {
     report::front_mut(bytes, report::changed(entry(set, column), slice, change))
 }
 
 // The same of a work slice.
-fn cut_work(work: &mut [u32], set: usize, slice: usize, change: usize) -> &mut [u32] {
+pub fn cut_work(work: &mut [u32], set: usize, slice: usize, change: usize) -> &mut [u32] {
     report::numbers_mut(work, 0, report::changed(entry(set, 3), slice, change))
 }
 
 // An input of 32 bytes from a place on, in the same way.
-fn input(inputs: &[u8], from: usize, slice: usize, change: usize) -> &[u8] {
+pub fn input(inputs: &[u8], from: usize, slice: usize, change: usize) -> &[u8] {
     report::part(inputs, from, report::changed(32, slice, change))
 }
 
@@ -180,4 +186,12 @@ pub fn flip(bytes: &mut [u8], place: usize) {
     if place < bytes.len() {
         bytes[place] = bytes[place] ^ 1;
     }
+}
+
+// Fills the inputs of one of two choices: key seed, sealing seed and message.
+pub fn fill_inputs(inputs: &mut [u8], choice: usize) {
+    let start = 5 + 72 * (choice % 2);
+    report::fill_bytes(report::front_mut(inputs, 32), start);
+    report::fill_bytes(report::part_mut(inputs, 32, 32), start + 1);
+    report::fill_bytes(report::part_mut(inputs, 64, 32), start + 2);
 }

@@ -1,4 +1,5 @@
-// The noise sheet on inputs, each after a byte that tells its length, then sealings of set 0 at each bound of the noise.
+// The noise sheet on inputs, each after a byte that tells its length, and with lent slices one short and one long, then sealings of set 0 at each bound
+// of the noise.
 ghost use Prim.Native.Nat.{_<_, _≤_};
 
 // Prints the sheet of one input; `text` is lent for it.
@@ -8,7 +9,7 @@ fn print_through(input: &[u8], text: &mut [u8], work: &mut [u32]) {
 }
 
 // Prints the sheet of one input.
-fn print_sheet(input: &[u8], work: &mut [u32]) {
+pub fn print_sheet(input: &[u8], work: &mut [u32]) {
     let mut text = [0u8; 1024];
     print_through(input, &mut text, work);
 }
@@ -34,6 +35,49 @@ fn print_sheets(inputs: &[u8], work: &mut [u32]) {
         let n = length_of(inputs[at]);
         print_sheet(report::part(inputs, at + 1, n), work);
         at = next(at, n, end);
+    }
+}
+
+// 01's Bench input.
+const BENCH: [u8; 14] = [0, 3, 5, 1, 2, 3, 4, 1, 0, 255, 1, 254, 1, 0];
+
+// The Bench sheet in slices of these lengths; the checksums cover what lies behind them too.
+fn lent_through(lengths: [usize; 2], text: &mut [u8], work: &mut [u32]) {
+    let input = BENCH;
+    let written = sheet::sheet(
+        &input,
+        report::front_mut(text, lengths[0]),
+        report::numbers_mut(work, 0, lengths[1]),
+    );
+    report::text(b"lent");
+    report::number(lengths[0] as u64);
+    report::number(lengths[1] as u64);
+    report::number(written as u64);
+    report::byte_sum(text);
+    report::number_sum(work);
+    report::end();
+}
+
+// The same with the length of the text or of the work slice changed.
+fn lent(change: usize) {
+    let mut text = [7u8; 1025];
+    let mut work = [7u32; 22522];
+    lent_through(
+        [
+            report::changed(1024, 0, change),
+            report::changed(22521, 1, change),
+        ],
+        &mut text,
+        &mut work,
+    );
+}
+
+// Each of these lengths.
+fn all_lent() {
+    let mut change: usize = 0;
+    while change < 5 {
+        lent(change);
+        change += 1;
     }
 }
 
@@ -91,9 +135,10 @@ fn print_bounds() {
     print_made(12);
 }
 
-// All sheets, then the bounds.
+// All sheets, then the lengths and the bounds.
 pub fn run(inputs: &[u8]) {
     let mut work = [0u32; 22521];
     print_sheets(inputs, &mut work);
+    all_lent();
     print_bounds();
 }

@@ -38,11 +38,6 @@ module _ (p : Parameters) (seed : List ℕ) where
     unfolding uniformAnswer
     answer-refusal number e = refusal-cases _ number (uniform p seed size counter wanted) e
 
-  -- the counter that a secret draw leaves
-  pub secretCounter-most : secretCounter p seed ≤ p .d3
-  unfolding secretCounter
-  secretCounter-most = read-most p seed (p .bytpcs) 0 (p .d3)
-
   -- the counter with which a public polynomial begins
   pub publicCounter-most : (i : ℕ) → publicCounter p seed i ≤ i * p .n
   unfolding publicCounter

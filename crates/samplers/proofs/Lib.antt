@@ -3,3 +3,4 @@ pub mod Uniform
 pub mod Drawing
 pub mod Values
 pub mod Answers
+pub mod Laws

@@ -99,11 +99,6 @@ module _ (p : Parameters) (seed : List ℕ) (size counter : ℕ) where
     unfolding drawnFrom
     drawn-length m xs e = accept-length (p .q) (p .zqrej) wanted 0 _ xs (omega arith) e
 
-    -- as many blocks as results wanted suffice: the draw has its numbers or is refused
-    pub uniform-decided : 384 ≤ size → (xs : List ℕ) (run : ℕ) → uniform p seed size counter wanted ≡ ended xs run → ⊥
-    unfolding uniform
-    uniform-decided large xs run e = omega (arith, drawn-ended wanted xs run large e .few)
-
     -- the numbers of a draw are as many as wanted
     pub uniform-length : (xs : List ℕ) → uniform p seed size counter wanted ≡ taken xs → length xs ≡ wanted
     unfolding uniform

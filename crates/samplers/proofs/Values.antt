@@ -93,11 +93,6 @@ module _ (p : Parameters) where
     multipliersDrawn-length = multipliers-length _
 
     module _ (position : ℕ) (h : position < multiplierCount p) where
-      -- and their sizes
-      pub multipliersDrawn-some : 1 ≤ natAbs (getD (multipliersDrawn p seed) position (pos 0))
-      unfolding multipliersDrawn
-      multipliersDrawn-some = rw (multipliers-at position h (sourceBytes p seed 0 (multiplierDrawBytes p))) (multiplier-some _ _)
-
       pub multipliersDrawn-most : natAbs (getD (multipliersDrawn p seed) position (pos 0)) ≤ 2 ^ multiplierBits p position
       unfolding multipliersDrawn
       multipliersDrawn-most = rw (multipliers-at position h (sourceBytes p seed 0 (multiplierDrawBytes p))) (multiplier-most _ _)

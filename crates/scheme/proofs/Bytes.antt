@@ -18,10 +18,9 @@ use Rattle.sets.specs.declared.Parameters.{Parameters}
 use Rattle.sets.specs.Derived.{transformRoot, packedBytes, publicKeyBytes, sealedBytes}
 use Rattle.packing.specs.Digits.{pack, unpack, Digit}
 use Rattle.packing.specs.Dropped.{chop, packDropping, unpackDropped}
-use Rattle.packing.proofs.Digits.{unpack-pack, pack-length}
-use Rattle.packing.proofs.Dropped.{unpackDropped-packDropping, packDropping-length}
+use Rattle.packing.proofs.Laws.{unpack-pack, pack-length, unpackDropped-packDropping, packDropping-length}
 use Rattle.transformed.specs.Stored.{rowCount, rootInverse, sent, sentInverse, recovered, recoveredInverse}
-use Rattle.source.proofs.Length.{sourceBytes-length}
+use Rattle.source.proofs.Laws.{sourceBytes-length}
 use Rattle.scheme.specs.Encryption.{secretSeed, publicSeed, publicPolynomial, publicVector, publicKey, keySeed, keyNumbers, keyPolynomial, multiplierVector, firstNumbers, sealedNumbers, firstBytes, secondBytes, ciphertext, cipherFirst, cipherSecond}
 use Rattle.scheme.specs.Conditions.{Conditions}
 use Rattle.scheme.proofs.Conditions.{positive, root, size1, size2}

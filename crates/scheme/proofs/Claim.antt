@@ -11,17 +11,19 @@ use lib.ListN.{length}
 use Rattle.maths.specs.Vector.{at}
 use Rattle.maths.specs.Integer.{residue}
 use Rattle.maths.specs.Rounding.{centredBit}
+use Rattle.maths.specs.BitClaim.{BitClaim}
 use Rattle.maths.proofs.Vector.{equal-by-place}
-use Rattle.maths.proofs.Rounding.{centredBit-reads, centredBit-misreads}
+use Rattle.maths.proofs.Rounding.{centredBit-claim}
 use Rattle.sets.specs.declared.Parameters.{Parameters}
 use Rattle.sets.specs.Derived.{halfModulus}
 use Rattle.packing.specs.Digits.{Digit}
 use Rattle.packing.specs.Message.{messageBits, messageBytes}
-use Rattle.packing.proofs.Message.{messageBits-below, messageBits-length, messageBits-messageBytes, messageBytes-messageBits, messageBytes-length, messageBytes-below}
+use Rattle.packing.proofs.Laws.{messageBits-below, messageBits-length, messageBits-messageBytes, messageBytes-messageBits, messageBytes-length}
+use Rattle.packing.proofs.Laws.{messageBytes-below}
 use Rattle.scheme.specs.Encryption.{secretSeed, publicKey, ciphertext, openedNumber, readBits, readMessage}
 use Rattle.scheme.specs.Noise.{noise}
 use Rattle.scheme.specs.Conditions.{Conditions}
-use Rattle.scheme.specs.Claim.{messageBit, messageRead, Claim}
+use Rattle.scheme.specs.Bits.{messageBit, messageRead}
 use Rattle.scheme.proofs.Conditions.{positive}
 use Rattle.scheme.proofs.Places.{readBits-length, readBits-at, readBits-below, openedNumber-below}
 use Rattle.scheme.proofs.Noise.{noisy}
@@ -72,21 +74,17 @@ module _ {p : Parameters} (c : Conditions p) where
         let ct : List ℕ = ciphertext p (publicKey p seed) message seedr in
         sym (mod-eq-of-lt (openedNumber-below p (secretSeed p seed) ct j (positive c))) ∙ noisy c seed message seedr j inside .same
 
-    -- the claim: key, encryption and decryption, from the two seeds and the message to the message read
-    pub claim : Claim p (noise p seed message seedr) message (messageRead p seed message seedr)
-    claim =
-        record {
-          reads = λ j inside small.
-              bit-rounds j inside
-              ∙ centredBit-reads (halfModulus p) (p .q) (messageBit p message j) _ (noise p seed message seedr j) (c .odd) (messageBit-bit p message j) (opened-noisy j inside) (halfModulus p / 2) (c .even-half) small;
-          misreads = λ j inside large small.
-              bit-rounds j inside
-              ∙ centredBit-misreads (halfModulus p) (p .q) (messageBit p message j) _ (noise p seed message seedr j) (c .odd) (messageBit-bit p message j) (opened-noisy j inside) (halfModulus p / 2) (c .even-half) large small;
-        }
+    -- the claim at a place: key, encryption and decryption, from the two seeds and the message to the message read
+    pub claim : (j : ℕ) → j < p .d
+        → BitClaim (halfModulus p) (noise p seed message seedr j) (messageBit p message j) (messageBit p (messageRead p seed message seedr) j)
+    claim j inside =
+        rw (bit-rounds j inside)
+        (centredBit-claim (halfModulus p) (p .q) (messageBit p message j) _ (noise p seed message seedr j) (c .odd) (messageBit-bit p message j)
+        (opened-noisy j inside) (halfModulus p / 2) (c .even-half))
 
     -- a message of 32 bytes comes back whole where twice the size of the noise is below h at every place
     pub returned : length message ≡ 32 → Digit 8 message → ((j : ℕ) → j < p .d → 2 * natAbs (noise p seed message seedr j) < halfModulus p) → messageRead p seed message seedr ≡ message
     unfolding messageRead readMessage
     returned size bytes small =
         let bits : List ℕ = readBits p (secretSeed p seed) (ciphertext p (publicKey p seed) message seedr) in
-        same-message message (messageRead p seed message seedr) size bytes (messageBytes-length 32 bits) (messageBytes-below 32 bits) (λ j inside. claim .reads j inside (small j inside))
+        same-message message (messageRead p seed message seedr) size bytes (messageBytes-length 32 bits) (messageBytes-below 32 bits) (λ j inside. claim j inside .reads (small j inside))

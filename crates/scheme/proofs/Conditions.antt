@@ -11,7 +11,7 @@ use Rattle.sets.specs.Derived.{transformSize, transformRoot}
 use Rattle.sets.specs.Rules.{Rules, ByteRules}
 use Rattle.sets.proofs.Rules.{rules, byteRules}
 use Rattle.sets.proofs.Transforms.{size-first, size-second, size-third}
-use Rattle.roots.proofs.Roots as roots
+use Rattle.roots.proofs.Laws as roots
 use Rattle.transformed.specs.Stored.{rowCount, rootInverse, sizeInverse}
 use Rattle.scheme.specs.Conditions.{Conditions}
 

@@ -8,13 +8,14 @@ use borrow.Author.Tests.{eq-eqb}
 use lib.IntN.{natAbs}
 use lib.ListN.{length, take, drop}
 use lib.Seq.{take-at, drop-at}
+use Rattle.maths.specs.BitClaim.{BitClaim}
 use Rattle.sets.specs.declared.Parameters.{Parameters}
 use Rattle.sets.specs.Derived.{halfModulus, sealedBytes}
 use Rattle.packing.specs.Digits.{Digit}
 use Rattle.scheme.specs.Encryption.{secretSeed, ciphertext, readMessage}
 use Rattle.scheme.specs.Noise.{noise}
 use Rattle.scheme.specs.Conditions.{Conditions}
-use Rattle.scheme.specs.Claim.{messageRead, Claim}
+use Rattle.scheme.specs.Bits.{messageBit, messageRead}
 use Rattle.scheme.specs.Exchange.{innerSeed, exchangePublicKey, exchangeSecretKey, sealingSeed, checkBytes, encapsulated, sharedKey, same, decapsulatedMessage, hashedSecret, decapsulated}
 use Rattle.scheme.proofs.Bytes.{ciphertext-length}
 use Rattle.scheme.proofs.Claim as claims
@@ -53,8 +54,9 @@ module _ {p : Parameters} (c : Conditions p) (seed message : List ℕ) (size : l
       ∙ ap (readMessage p (secretSeed p (innerSeed p seed))) (take-at (ciphertext p pk message (sealingSeed message)) (checkBytes message) (sealedBytes p) (ciphertext-length c pk message (sealingSeed message)))
 
   -- the claim on the bits that decapsulation reads before it seals them again
-  pub claim : Claim p (noise p (innerSeed p seed) message (sealingSeed message)) message (decapsulatedMessage p sk ct)
-  claim = rw read-message (claims.claim c (innerSeed p seed) message (sealingSeed message))
+  pub claim : (j : ℕ) → j < p .d
+      → BitClaim (halfModulus p) (noise p (innerSeed p seed) message (sealingSeed message) j) (messageBit p message j) (messageBit p (decapsulatedMessage p sk ct) j)
+  claim j inside = rw read-message (claims.claim c (innerSeed p seed) message (sealingSeed message) j inside)
 
   -- where twice the size of the noise is below h at every place, decapsulation gives the shared key of encapsulation
   pub same-key : length message ≡ 32 → Digit 8 message → ((j : ℕ) → j < p .d → 2 * natAbs (noise p (innerSeed p seed) message (sealingSeed message) j) < halfModulus p)

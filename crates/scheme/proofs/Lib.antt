@@ -1,7 +1,6 @@
 pub mod Conditions
 pub mod Places
 pub mod Bytes
-pub mod Cancelling
 pub mod Noise
 pub mod Claim
 pub mod Exchange

@@ -11,23 +11,23 @@ use Rattle.maths.specs.Vector.{at}
 use Rattle.maths.specs.Sum.{sum}
 use Rattle.maths.specs.Congruence.{Mod}
 use Rattle.maths.specs.Product.{correlation}
-use Rattle.maths.specs.Integer.{residue}
+use Rattle.maths.specs.Integer.{residue, correlationℤ}
 use Rattle.maths.proofs.Congruence.{mod-refl, mod-eq, mod-sym, mod-trans, mod-add, mod-mul, mod-sum, mod-remainder, mod-add-multiple, mod-add-cancel}
+use Rattle.maths.proofs.Cancelling.{exchanged}
 use Rattle.maths.proofs.Integer.{natAbs-negℤ, residue-+ℤ, residue-*ℤ, residue-negℤ, residue-low, residue-sumℤ, residue-centre, centre-residue}
 use Rattle.calls.specs.Region.{vector}
 use Rattle.sets.specs.declared.Parameters.{Parameters}
 use Rattle.sets.specs.Derived.{halfModulus}
-use Rattle.packing.proofs.Dropped.{chop-dropped, dropped-below}
+use Rattle.packing.proofs.Laws.{chop-dropped, dropped-below}
 use Rattle.samplers.specs.Seeded.{multipliersDrawn}
 use Rattle.transformed.specs.Stored.{recoveredInverse}
 use Rattle.scheme.specs.Encryption.{secretSeed, publicSeed, secret, publicPolynomial, errors, residueVector, publicKey, keyPolynomial, multiplierVector, firstNumbers, sealedNumbers, ciphertext, cipherFirst, cipherSecond, openedNumber}
-use Rattle.scheme.specs.Noise.{correlationℤ, productNoise, droppedNoise, noise}
+use Rattle.scheme.specs.Noise.{productNoise, droppedNoise, noise}
 use Rattle.scheme.specs.Conditions.{Conditions}
-use Rattle.scheme.specs.Claim.{messageBit}
+use Rattle.scheme.specs.Bits.{messageBit}
 use Rattle.scheme.proofs.Conditions.{positive}
 use Rattle.scheme.proofs.Places.{residueVector-at, multiplierVector-past, publicPolynomial-past, publicVector-at, firstNumbers-at, sealedNumbers-at}
 use Rattle.scheme.proofs.Bytes.{keySeed-back, keyPolynomial-back, firstNumbers-back, sealedNumbers-below, cipherSecond-at}
-use Rattle.scheme.proofs.Cancelling.{exchanged}
 
 -- the residue of a correlation of whole numbers
 correlationℤ-residue : (q n : ℕ) (x y : List ℤ) (j : ℕ) → 0 < q → Mod q (residue q (correlationℤ n x y j)) (sum n (λ l. residue q (getD x l (pos 0)) * residue q (getD y (j + l) (pos 0))))
@@ -103,7 +103,7 @@ module _ {p : Parameters} (c : Conditions p) (seed message seedr : List ℕ) (j 
       let e : ℕ → List ℕ = residueVector p (p .d + p .k) (errors p (secretSeed p seed)) in
       rw (sealedNumbers-at p (publicKey p seed) message seedr j inside)
       (mod-trans (mod-remainder (p .q) _) (mod-add
-      (exchanged (p .q) (p .k + 1) (p .n) (p .n + p .k) (p .t) r a (keyPolynomial p (publicKey p seed)) e (at (secret p (secretSeed p seed))) (firstNumbers p r a) j
+      (exchanged (p .q) (p .k + 1) (p .n) (p .n + p .k) (p .t) r a (λ i. at (keyPolynomial p (publicKey p seed) i)) (λ i. at (e i)) (at (secret p (secretSeed p seed))) (at (firstNumbers p r a)) j
       (λ i l h k. multiplierVector-past p seedr i l k) (λ i l h k. publicPolynomial-past p (publicSeed p seed) i l k) (omega arith)
       (λ i l h k. rw (keyPolynomial-back c seed i h, publicVector-at p (secretSeed p seed) (publicSeed p seed) i (j + l) (omega arith)) (mod-remainder (p .q) _))
       (λ l k. rw (firstNumbers-at p r a l k) (mod-remainder (p .q) _)))

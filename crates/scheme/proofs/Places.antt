@@ -20,13 +20,13 @@ use Rattle.calls.proofs.Region.{region-entry}
 use Rattle.sets.specs.declared.Parameters.{Parameters}
 use Rattle.sets.specs.Derived.{halfModulus}
 use Rattle.draws.specs.Uniform.{Drawn, taken, ended, exhausted, accept, numbers}
-use Rattle.draws.proofs.Accept.{Within, accept-within}
+use Rattle.draws.proofs.Laws.{Within, accept-within}
 use Rattle.packing.specs.Digits.{Digit}
 use Rattle.samplers.specs.Blocks.{blockCandidates, drawnFrom, uniform}
 use Rattle.samplers.specs.Seeded.{publicCounter, publicDrawn, multipliersDrawn}
 use Rattle.transformed.specs.Stored.{summedProducts}
 use Rattle.scheme.specs.Encryption.{secret, publicPolynomial, errors, residueVector, keyVector, publicVector, keyPolynomial, multiplierVector, firstNumbers, secondNumbers, sealedNumbers, openedNumber, readBits}
-use Rattle.scheme.specs.Claim.{messageBit}
+use Rattle.scheme.specs.Bits.{messageBit}
 
 -- a region has no more entries than places
 region-short : {A : Type 0} (xs : List A) (from n : ℕ) → length (region xs from n) ≤ n

@@ -1,6 +1,6 @@
 pub mod Encryption
 pub mod Noise
 pub mod Conditions
-pub mod Claim
+pub mod Bits
 pub mod Exchange
 pub mod Answers

@@ -3,20 +3,15 @@
 use mathlib.Core.Path.{_≡_, refl}
 use mathlib.Core.List.{List, [], _∷_}
 use Prim.Native.Nat.{ℕ, _+_, _-_, _%_}
-use lib.IntN.{ℤ, pos, negsuc, _+ℤ_, _*ℤ_}
-use lib.ListN.{getD}
+use lib.IntN.{ℤ, pos, negsuc, _+ℤ_}
 use Rattle.maths.specs.Vector.{at}
-use Rattle.maths.specs.Integer.{sumℤ, centre, centreBy}
+use Rattle.maths.specs.Integer.{sumℤ, correlationℤ, centre, centreBy}
 use Rattle.calls.specs.Region.{region, vector}
 use Rattle.sets.specs.declared.Parameters.{Parameters}
 use Rattle.sets.specs.Table.{table, setOf}
 use Rattle.sets.specs.Derived.{halfModulus}
 use Rattle.samplers.specs.Seeded.{multipliersDrawn}
 use Rattle.scheme.specs.Encryption.{secretSeed, publicKey, errors, sealedNumbers, ciphertext, cipherSecond}
-
--- place j of Rev(x) ⊙ y over whole numbers, signs kept: the sum of x_l · y_(j + l) over the n places of x
-unfoldable pub correlationℤ : ℕ → List ℤ → List ℤ → ℕ → ℤ
-correlationℤ n x y j = sumℤ n (λ l. getD x l (pos 0) *ℤ getD y (j + l) (pos 0))
 
 -- the products' part: the sum over i of Rev(r_i) ⊙ e_i
 unfoldable pub productNoise : Parameters → List ℤ → List ℤ → ℕ → ℤ

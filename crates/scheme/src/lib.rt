@@ -1,4 +1,4 @@
-// Titanium 1.1 as 003 defines it, and the theorem from the seeds to the bits read: definitions and laws. The only code is that of lengths.
+// Titanium 1.1 as 003 defines it, its noise and the bits read: definitions and laws. The only code is that of lengths.
 use sets::Parameters;
 ghost use mathlib.Core.Path.{_≡_};
 ghost use mathlib.Core.List.{[], _∷_};

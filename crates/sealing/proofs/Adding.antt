@@ -21,19 +21,15 @@ use Rattle.packing.specs.Digits.{Digit, pack}
 use Rattle.draws.specs.Uniform.{taken, numbers}
 use Rattle.samplers.specs.Blocks.{uniform, onto, refusal, uniformAnswer}
 use Rattle.samplers.specs.Seeded.{publicCounter, publicDrawn}
-use Rattle.samplers.proofs.Uniform.{uniform-length, uniform-below}
-use Rattle.samplers.proofs.Answers.{answer-onto, answer-refusal, publicCounter-most}
+use Rattle.samplers.proofs.Laws.{uniform-length, uniform-below, answer-onto, answer-refusal, publicCounter-most}
 use Rattle.transformed.specs.Stored.{sent, accumulated, totals}
 use Rattle.transformed.specs.Placed.{Placed}
-use Rattle.transformed.proofs.Pointwise.{accumulated-length}
-use Rattle.transformed.proofs.Vectors.{Stored, sent-placed, addends}
-use Rattle.transformed.proofs.Sums.{totals-none, totals-more, totals-placed, totals-sent}
+use Rattle.transformed.proofs.Laws.{accumulated-length, Stored, sent-placed, addends, totals-none, totals-more, totals-placed, totals-sent, front-placed}
 use Rattle.scheme.specs.Answers.{isTaken, allTaken}
 use Rattle.scheme.specs.Encryption.{publicPolynomial, firstNumbers, firstBytes}
 use Rattle.sealing.specs.Parts.{Multipliers, packedFirst}
 use Rattle.calls.proofs.Parts.{front}
 use Rattle.sets.proofs.Transforms.{second-size}
-use Rattle.transformed.proofs.Front.{front-placed}
 use Rattle.sealing.proofs.Multiplied.{residue-digits, vector-room}
 use Rattle.scheme.proofs.Taken.{not-taken, taken-numbers, allTaken-false, allTaken-each, allTaken-more, allTaken-none}
 

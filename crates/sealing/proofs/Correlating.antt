@@ -25,10 +25,8 @@ use Rattle.packing.specs.Digits.{Digit}
 use Rattle.packing.specs.Dropped.{packDropping}
 use Rattle.packing.specs.Message.{messageBits}
 use Rattle.transformed.specs.Stored.{sent, recovered, accumulated, totals, summedCorrelations}
-use Rattle.transformed.proofs.Pointwise.{accumulated-length}
-use Rattle.transformed.proofs.Vectors.{Stored, sent-placed, recovered-placed, addends}
-use Rattle.transformed.proofs.Sums.{totals-none, totals-more, totals-placed, totals-recovered}
-use Rattle.transformed.proofs.Recovered.{recovered-take}
+use Rattle.transformed.proofs.Laws.{accumulated-length, Stored, sent-placed, recovered-placed, addends, totals-none, totals-more, totals-placed}
+use Rattle.transformed.proofs.Laws.{totals-recovered, recovered-take}
 use Rattle.scheme.specs.Encryption.{secondNumbers, secondBytes}
 use Rattle.sealing.specs.Parts.{Multipliers, KeyResidues, messageAdded, secondSums, packedSecond}
 use Rattle.calls.proofs.Parts.{front-length}

@@ -22,7 +22,7 @@ use Rattle.packing.specs.Digits.{Digit}
 use Rattle.transformed.specs.Placed.{Placed}
 use Rattle.sealing.specs.Parts.{Multipliers}
 use Rattle.calls.proofs.Parts.{front}
-use Rattle.transformed.proofs.Front.{front-placed}
+use Rattle.transformed.proofs.Laws.{front-placed}
 
 -- a vector lies within all vectors
 pub vector-within : (n i t : ℕ) → i < t → n * i + n ≤ n * t

@@ -9,8 +9,8 @@ use native.Mathlib.Decide.{decLt}
 use native.Mathlib.Omega.{arith}
 use lib.Dec.{ltb}
 use lib.IntN.{ℤ, pos}
-use lib.ListN.{length, getD, take, drop, length-take, length-drop, length-map, take-append-drop}
-use lib.Seq.{take-all, take-at, drop-at, drop-length}
+use lib.ListN.{length, getD, take, drop, length-drop, length-map}
+use lib.Seq.{take-at, drop-at, drop-length}
 use borrow.Author.Tests.{ltb-false}
 use Rattle.maths.specs.Vector.{at}
 use Rattle.maths.specs.Integer.{residue}
@@ -19,39 +19,21 @@ use Rattle.maths.proofs.Integer.{residue-lt}
 use Rattle.calls.specs.Outcome.{Outcome, accepted, refused, refuse, leaves}
 use Rattle.calls.specs.Checks.{passing, below}
 use Rattle.calls.specs.Region.{region}
-use Rattle.calls.proofs.Outcome.{leaves-refused, leaves-accepted, refuse-true, refuse-false, accepted-call}
+use Rattle.calls.proofs.Outcome.{leaves-accepted, refuse-true, refuse-false, accepted-call}
 use Rattle.calls.proofs.Checks.{passing-within, passing-below}
-use Rattle.calls.proofs.Region.{region-part, over-lent, over-length}
+use Rattle.calls.proofs.Region.{region-part}
+use Rattle.calls.proofs.Parts.{rest-whole}
 use Rattle.sets.specs.declared.Parameters.{Parameters}
 use Rattle.sets.specs.Table.{setOf}
 use Rattle.sets.specs.Derived.{multiplierCount, packedBytes, publicKeyBytes, sealedBytes}
 use Rattle.sets.proofs.Rules.{rules}
 use Rattle.packing.specs.Digits.{unpack}
-use Rattle.packing.proofs.Digits.{unpack-length}
+use Rattle.packing.proofs.Laws.{unpack-length}
 use Rattle.samplers.specs.Seeded.{publicDrawn, multipliersDrawn}
-use Rattle.samplers.proofs.Values.{multipliersDrawn-length}
+use Rattle.samplers.proofs.Laws.{multipliersDrawn-length}
 use Rattle.scheme.specs.Answers.{workLength, allTaken, allBelow, sealingDraws}
 use Rattle.scheme.specs.Encryption.{residueVector, keySeed, keyNumbers, keyPolynomial, multiplierVector, sealedNumbers, firstBytes, secondBytes, ciphertext}
 use Rattle.sealing.specs.Parts.{Multipliers, KeyResidues, Loaded, packedFirst, secondSums, packedSecond}
-
--- a slice whose first n entries came back as ys keeps its length
-pub back-length : (xs ys : List ℕ) (n : ℕ) → length ys ≡ n → n ≤ length xs → length (take 0 xs ++ (ys ++ drop (n - 0) (drop 0 xs))) ≡ length xs
-back-length xs ys n l h = ap length (over-lent xs 0 ys n (omega arith)) ∙ over-length xs 0 ys (omega arith)
-
--- the length of the part from n on
-pub rest-length : (xs : List ℕ) (n m : ℕ) → length xs ≡ n + m → length (take (length xs - n) (drop n xs)) ≡ m
-rest-length xs n m e = simp (length-take, length-drop) (omega arith)
-
--- the part from n on is all that follows
-pub rest-whole : (xs : List ℕ) (n : ℕ) → take (length xs - n) (drop n xs) ≡ drop n xs
-rest-whole xs n = take-all (length xs - n) (drop n xs) (rw length-drop (omega arith))
-
--- a refused call leaves the slice whose first n entries were lent as it was
-pub front-refused : {o : Outcome} {number place : ℕ} (xs ys new front : List ℕ) (n : ℕ) → o ≡ refused number place → ys ≡ leaves o front (take (n - 0) (drop 0 xs))
-    → (refused number place ≡ o) × (take 0 xs ++ (ys ++ drop (n - 0) (drop 0 xs)) ≡ leaves o new xs)
-front-refused xs ys new front n e l =
-    let same : ys ≡ take (n - 0) (drop 0 xs) = l ∙ leaves-refused front (take (n - 0) (drop 0 xs)) e in
-    (sym e, ap (λ (zs : List ℕ). take 0 xs ++ (zs ++ drop (n - 0) (drop 0 xs))) same ∙ take-append-drop (n - 0) (drop 0 xs) ∙ sym (leaves-refused new xs e))
 
 -- the first n entries written, then the others
 pub both-written : (xs ys zs : List ℕ) (n : ℕ) → length ys ≡ n
@@ -70,10 +52,6 @@ pub both-accepted : {o : Outcome} (xs ys zs front rest : List ℕ) (n : ℕ) →
 both-accepted xs ys zs front rest n e l first second =
     accepted-call (front ++ rest) xs e
     (both-written xs ys zs n l ∙ ap₂ (λ (one other : List ℕ). one ++ other) (first ∙ leaves-accepted front (take (n - 0) (drop 0 xs)) e) second)
-
--- the length of a part
-pub part-long : (xs : List ℕ) (n end : ℕ) → end ≤ length xs → length (take (end - n) (drop n xs)) ≡ end - n
-part-long xs n end h = simp (length-take, length-drop) (omega arith)
 
 -- a slice whose first n entries came back as ys, and the m after them as zs
 module _ (xs ys zs : List ℕ) (n end : ℕ) (l : length ys ≡ n) (m : length zs ≡ end - n) where

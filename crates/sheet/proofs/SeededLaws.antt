@@ -1,6 +1,6 @@
 -- What key, encrypt and decrypt in turn answer and leave on slices of the set's lengths: only a draw of the key can be refused.
 -- Assumes nothing.
-use mathlib.Core.Path.{_≡_, refl, ap, ap₂, _∙_}
+use mathlib.Core.Path.{_≡_, sym, ap, ap₂, _∙_}
 use mathlib.Core.Bool.{true}
 use mathlib.Core.List.{List}
 use Prim.Native.Nat.{ℕ, _≤_, _<_, _^_}
@@ -8,8 +8,7 @@ use native.Mathlib.Omega.{arith}
 use borrow.Author.Tests.{eq-eqb, le-leb}
 use lib.IntN.{ℤ, pos, natAbs}
 use lib.ListN.{length, getD}
-use Rattle.calls.specs.Outcome.{Outcome, accepted, refused}
-use Rattle.calls.specs.Checks.{allOf}
+use Rattle.calls.proofs.Checks.{each-allOf}
 use Rattle.sets.specs.declared.Parameters.{Parameters}
 use Rattle.sets.specs.Table.{setOf}
 use Rattle.sets.specs.Derived.{isEncryption, publicKeyBytes, secretKeyBytes, sealedBytes, ciphertextBytes}
@@ -17,49 +16,46 @@ use Rattle.sets.proofs.Lengths.{secret-other, ciphertext-other}
 use Rattle.packing.specs.Message.{messageBits}
 use Rattle.draws.specs.Calls.{inTurn}
 use Rattle.scheme.specs.Noise as scheme
-use Rattle.scheme.specs.Claim.{messageRead}
-use Rattle.scheme.specs.Answers.{refuseSet, workLength, keyDraws, encryptionKeyAnswer}
+use Rattle.scheme.specs.Bits.{messageRead}
+use Rattle.scheme.specs.Answers.{refuseLengths, workLength, keyDraws}
 use Rattle.scheme.proofs.Answers.{set-own, encryption-only}
-use Rattle.round_trip.specs.Answers.{andThen, encryptedAnswer, roundTripAnswer}
+use Rattle.round_trip.specs.Answers.{sealAndReadLengths, sealAndReadAnswer}
 use Rattle.sheet_text.proofs.OrderLaws.{sizes-small}
-use Rattle.sheet.specs.Sheet.{seededNoise, seededSent, seededRead}
-use Rattle.sheet.specs.Rows.{Rows}
+use Rattle.sheet.specs.Rows.{seededNoise, seededSent, seededRead, Rows}
 
--- what comes after accepts
-then-done : (o : Outcome) → andThen o accepted ≡ o
-then-done accepted = refl
-then-done (refused number place) = refl
-
-module _ (set : ℕ) (some : 1 ≤ set) (low : set ≤ 6) where
-  -- a set of the encryption scheme
-  own-true : isEncryption set ≡ true
-  unfolding isEncryption
-  own-true = rw (le-leb 1 set some, le-leb set 6 low)
-
-  own : (after : Outcome) → refuseSet isEncryption set after ≡ after
-  own after = set-own isEncryption set after some (omega arith) own-true
-
-  -- its secret key and ciphertext
-  secret-size : secretKeyBytes set ≡ 32
-  secret-size = secret-other set (encryption-only set own-true)
-
-  sealed-size : ciphertextBytes set ≡ sealedBytes (setOf set)
-  sealed-size = ciphertext-other set (encryption-only set own-true)
-
-  module _ (seed : List ℕ) (size : length seed ≡ 32) (public secret work : ℕ) (public-size : public ≡ publicKeyBytes (setOf set)) (secret-is : secret ≡ 32) (work-size : work ≡ workLength (setOf set)) where
-    -- key answers as its draws
-    pub key-answer : encryptionKeyAnswer set seed public secret work ≡ keyDraws (setOf set) seed
-    unfolding allOf encryptionKeyAnswer
-    key-answer =
-        simp (own, secret-size, eq-eqb (length seed) 32 size, eq-eqb public _ public-size, eq-eqb secret _ secret-is, eq-eqb work _ work-size)
-
-    -- and so do all three
-    pub whole-answer : (message sealing sealed read : ℕ) → message ≡ 32 → sealing ≡ 32 → sealed ≡ sealedBytes (setOf set) → read ≡ 32
-        → roundTripAnswer set seed public secret message sealing sealed read work ≡ keyDraws (setOf set) seed
-    unfolding allOf encryptedAnswer roundTripAnswer
-    whole-answer message sealing sealed read m s c r =
-        simp (key-answer, secret-size, sealed-size, eq-eqb public _ public-size, eq-eqb secret _ secret-is, eq-eqb work _ work-size, eq-eqb message _ m, eq-eqb sealing _ s, eq-eqb sealed _ c, eq-eqb read _ r)
-        (then-done (andThen (keyDraws (setOf set) seed) accepted) ∙ then-done (keyDraws (setOf set) seed))
+-- key, encrypt and decrypt in turn answer as the draws of the key, on slices of the set's lengths
+pub whole-answer : (set : ℕ) → 1 ≤ set → set ≤ 6 → (seed : List ℕ) (message sealing public secret sealed read work : ℕ)
+    → length seed ≡ 32 → message ≡ 32 → sealing ≡ 32 → public ≡ publicKeyBytes (setOf set) → secret ≡ 32 → sealed ≡ sealedBytes (setOf set) → read ≡ 32
+    → work ≡ workLength (setOf set)
+    → sealAndReadAnswer set seed (sealAndReadLengths set (length seed) message sealing public secret sealed read work) ≡ keyDraws (setOf set) seed
+unfolding isEncryption sealAndReadAnswer
+whole-answer set some low seed message sealing public secret sealed read work seed-is message-is sealing-is public-is secret-is sealed-is read-is work-is =
+    let own : isEncryption set ≡ true = rw (le-leb 1 set some, le-leb set 6 low) in
+    let secret-fits = eq-eqb secret (secretKeyBytes set) (secret-is ∙ sym (secret-other set (encryption-only set own))) in
+    let sealed-fits = eq-eqb sealed (ciphertextBytes set) (sealed-is ∙ sym (ciphertext-other set (encryption-only set own))) in
+    let public-fits = eq-eqb public _ public-is in
+    let work-fits = eq-eqb work _ work-is in
+    let tests = sealAndReadLengths set (length seed) message sealing public secret sealed read work in
+    set-own isEncryption set (refuseLengths tests (keyDraws (setOf set) seed)) some (omega arith) own
+    ∙ rw (each-allOf tests (
+      eq-eqb (length seed) 32 seed-is,
+      (
+        public-fits,
+        (
+          secret-fits,
+          (
+            work-fits,
+            (
+              public-fits,
+              (
+                eq-eqb message 32 message-is,
+                (eq-eqb sealing 32 sealing-is, (sealed-fits, (work-fits, (secret-fits, (sealed-fits, (eq-eqb read 32 read-is, (work-fits, tt))))))),
+              ),
+            ),
+          ),
+        ),
+      ),
+    ))
 
 -- the rows, from what the noise, the bits of the message sent and the bits of the message read are
 pub rows-filled : (p : Parameters) (seed message sealing opened sent read : List ℕ) (noise : List ℤ) (n m : ℕ) → noise ≡ inTurn (scheme.noise p seed message sealing) 0 (p .d)

@@ -4,39 +4,42 @@ use mathlib.Core.Path.{_≡_, refl, sym, ap, _∙_}
 use mathlib.Core.Bool.{Bool, true, false, not, cond}
 use mathlib.Core.List.{List}
 use Prim.Native.Nat.{ℕ, zero, suc, _+_, _-_, _*_, _^_, _≤_, _<_, max}
-use native.Mathlib.Nat.{sub-zero, zero-add, mul-le-mul}
+use native.Mathlib.Nat.{sub-zero, mul-le-mul}
+use native.Mathlib.Decide.{decLt}
 use native.Mathlib.Omega.{arith}
 use lib.Dec.{ltb, eqb}
 use borrow.Author.Tests.{leb-true, ltb-false, eqb-true, not-false, lt-ltb, le-ltb, le-leb, lt-leb, eq-eqb, ne-eqb}
 use lib.IntN.{ℤ, pos, natAbs, _+ℤ_, _*ℤ_}
-use lib.ListN.{length, getD, take, drop, replicate, length-replicate}
+use lib.ListN.{length, getD, take, drop, replicate, length-replicate, List·getD-eq-default}
 use lib.Pow.{pow-mono}
 use lib.Seq.{length-take-le}
+use Rattle.maths.proofs.Vector.{tabulate-self}
 use Rattle.maths.proofs.Integer.{natAbs-+ℤ, natAbs-*ℤ}
 use Rattle.calls.specs.Outcome.{Outcome, accepted, refused, refuse, leaves}
-use Rattle.calls.specs.Region.{over}
+use Rattle.calls.specs.Region.{region, over}
 use Rattle.calls.proofs.Outcome.{accepted-refused, leaves-accepted, refuse-accepted}
-use Rattle.calls.proofs.Region.{region-part, region-length}
+use Rattle.calls.proofs.Region.{region-part, region-length, region-entry}
 use Rattle.sets.specs.declared.Parameters.{Parameters}
 use Rattle.sets.specs.Table.{none, table, setOf}
-use Rattle.sets.specs.Derived.{halfModulus, multiplierCount}
+use Rattle.sets.specs.Derived.{isEncryption, halfModulus, multiplierCount}
 use Rattle.sets.specs.Rules.{Rules}
 use Rattle.numbers.specs.Noise as numbers
-use Rattle.draws.proofs.Positions.{turn-at}
-use Rattle.scheme.specs.Noise as scheme
-use Rattle.scheme.specs.Claim.{messageBit, messageRead}
+use Rattle.numbers.proofs.Laws.{reading-length}
+use Rattle.packing.specs.Digits.{Digit}
+use Rattle.packing.proofs.Laws.{messageBits-length}
+use Rattle.draws.specs.Calls.{inTurn}
+use Rattle.scheme.specs.Bits.{messageBit}
 use Rattle.scheme.specs.Answers.{workLength, keyDraws}
-use Rattle.scheme.proofs.Conditions.{set-conditions}
-use Rattle.scheme.proofs.Claim.{claim}
-use Rattle.bench_rows.specs.Bench.{bench, benchErrors, benchMultipliers, benchMessage, benchAnswer, benchNoise, benchRead}
-use Rattle.bench_rows.proofs.Numbers.{bench-message, bench-small}
+use Rattle.claim.specs.Claim.{encryption, Fits, Demand3}
+use Rattle.claim.proofs.Claim.{demand-3}
+use Rattle.bench_rows.specs.Bench.{bench, benchSecret, benchErrors, benchMultipliers, benchMessage, benchHanded, benchAnswer, benchNoise, benchRead}
+use Rattle.bench_rows.proofs.Numbers.{bench-message, bench-drawn, bench-small}
 use Rattle.bench_rows.proofs.NoiseLaws.{noise-two}
-use Rattle.bench_rows.proofs.Rows.{bench-reads}
 use Rattle.sheet_text.specs.Text.{sheetText, refusedText}
 use Rattle.sheet_text.specs.Written.{Sizes}
 use Rattle.sheet_text.proofs.OrderLaws.{sizes-small}
-use Rattle.sheet.specs.Sheet.{ceiling, setByte, inputBytes, keySeedOf, sealingSeedOf, messageOf, seededNoise, seededSent, seededRead, rowNoise, rowSent, rowRead, inputAnswer, rowsAnswer, sheetAnswer, answerText, rowsText, sheetOf, sheetWork, sheetFits, RowsRead}
-use Rattle.sheet.specs.Rows.{Rows, Printed}
+use Rattle.sheet.specs.Sheet.{ceiling, setByte, inputBytes, keySeedOf, sealingSeedOf, messageOf, handedIn, rowNoise, rowSent, rowRead, inputAnswer, rowsAnswer, sheetAnswer, answerText, rowsText, sheetOf, sheetWork, sheetFits}
+use Rattle.sheet.specs.Rows.{seededNoise, seededSent, seededRead, Rows, Printed}
 
 -- the length of a part that begins at the first entry of an array
 pub part-length : {A : Type 0} (x : A) (room n : ℕ) → n ≤ room → length (take (n - 0) (drop 0 (replicate room x))) ≡ n
@@ -143,12 +146,39 @@ module _ (input : List ℕ) (size : length input ≡ 14) (answer : benchAnswer i
   bench-sizes : Sizes (benchNoise input)
   bench-sizes = sizes-small (benchNoise input) bench-at
 
+-- the numbers of the rows of set 0
+bench-noises : (input : List ℕ) → rowNoise 0 input ≡ benchNoise input
+unfolding rowNoise handedIn benchNoise inTurn none table setOf
+bench-noises input = refl
+
+bench-sent : (input : List ℕ) → length input ≡ 14 → rowSent 0 input ≡ benchMessage input
+unfolding rowSent handedIn
+bench-sent input size = sym (tabulate-self (bench .d) (benchMessage input) (region-length input 12 2 (omega arith) ∙ sym bench-message))
+
+bench-reading : (input : List ℕ) → rowRead 0 input ≡ benchRead input
+unfolding rowRead handedIn benchRead
+bench-reading input = sym (tabulate-self (bench .d) _ (reading-length 0 bench _ _ (benchSecret input)))
+
+-- and of sets 1 to 6
+seeded-noises : (set : ℕ) (input : List ℕ) → 1 ≤ set → rowNoise set input ≡ seededNoise (setOf set) (keySeedOf input) (messageOf input) (sealingSeedOf input)
+unfolding rowNoise handedIn seededNoise
+seeded-noises set input some = rw (ne-eqb set 0 (λ z. omega arith))
+
+seeded-sent : (set : ℕ) (input : List ℕ) → 1 ≤ set → rowSent set input ≡ seededSent (setOf set) (messageOf input)
+unfolding rowSent handedIn seededSent messageBit
+seeded-sent set input some = rw (ne-eqb set 0 (λ z. omega arith)) (sym (tabulate-self (setOf set .d) _ (messageBits-length (setOf set .d) (messageOf input))))
+
+seeded-reading : (set : ℕ) (input : List ℕ) → 1 ≤ set → rowRead set input ≡ seededRead (setOf set) (keySeedOf input) (messageOf input) (sealingSeedOf input)
+unfolding rowRead handedIn seededRead messageBit
+seeded-reading set input some = rw (ne-eqb set 0 (λ z. omega arith)) (sym (tabulate-self (setOf set .d) _ (messageBits-length (setOf set .d) _)))
+
 -- the rows of set 0
 pub bench-filled : (set : ℕ) (input : List ℕ) (o : Outcome) (noise₀ noise : List ℤ) (sent₀ sent read₀ read : List ℕ) → set < 1 → length input ≡ inputBytes set → o ≡ benchAnswer input
     → noise ≡ leaves (benchAnswer input) (benchNoise input) noise₀ → sent ≡ leaves (benchAnswer input) (benchMessage input) sent₀ → read ≡ leaves (benchAnswer input) (benchRead input) read₀
     → (o ≡ rowsAnswer set input) × (o ≡ accepted → Rows (rowNoise set input) (rowSent set input) (rowRead set input) noise sent read)
-unfolding inputBytes rowsAnswer rowNoise rowSent rowRead
-bench-filled zero input o noise₀ noise sent₀ sent read₀ read low size e n s r = (e, λ a. filled (sym e ∙ a))
+unfolding inputBytes rowsAnswer
+bench-filled zero input o noise₀ noise sent₀ sent read₀ read low size e n s r =
+    rw (bench-noises input, bench-sent input size, bench-reading input) (e, λ a. filled (sym e ∙ a))
   where
     filled : benchAnswer input ≡ accepted → Rows (benchNoise input) (benchMessage input) (benchRead input) noise sent read
     filled done =
@@ -163,8 +193,17 @@ pub seeded-filled : (set : ℕ) (input : List ℕ) (o : Outcome) (noise : List �
     let sealing = take (65 - 33) (drop 33 input) in
     o ≡ keyDraws (setOf set) seed → (o ≡ accepted → Rows (seededNoise (setOf set) seed message sealing) (seededSent (setOf set) message) (seededRead (setOf set) seed message sealing) noise sent read)
     → (o ≡ rowsAnswer set input) × (o ≡ accepted → Rows (rowNoise set input) (rowSent set input) (rowRead set input) noise sent read)
-unfolding rowsAnswer rowNoise rowSent rowRead
-seeded-filled set input o noise sent read some e f = rw (ne-eqb set 0 (λ z. omega arith), ← key-part input, ← message-part input, ← sealing-part input) (e, f)
+unfolding rowsAnswer
+seeded-filled set input o noise sent read some e f =
+    rw (
+      seeded-noises set input some,
+      seeded-sent set input some,
+      seeded-reading set input some,
+      ne-eqb set 0 (λ z. omega arith),
+      ← key-part input,
+      ← message-part input,
+      ← sealing-part input,
+    ) (e, f)
 
 -- the text of rows that are filled
 pub accepted-text : (set : ℕ) (input : List ℕ) {o : Outcome} {noise : List ℤ} {sent read : List ℕ} → o ≡ rowsAnswer set input → o ≡ accepted
@@ -192,45 +231,52 @@ unchecked-text input e = refused-text (rowsText (setByte input) input) (input-re
 pub printed-as : {old text other new : List ℕ} {count : ℕ} → text ≡ other → Printed old text new count → Printed old other new count
 printed-as e printed = record { count-is = printed .count-is ∙ ap length e; short = printed .short; text-is = printed .text-is ∙ ap (over _ 0) e }
 
--- demand 3 on the rows of sets 1 to 6
-module _ (set : ℕ) (input : List ℕ) (some : 1 ≤ set) where
-  abbrev noiseAt : ℕ → ℤ
-  noiseAt = scheme.noise (setOf set) (keySeedOf input) (messageOf input) (sealingSeedOf input)
+-- the seeds and the message of an input have 32 bytes
+part-size : (input : List ℕ) (from : ℕ) → length input ≡ 97 → from + 32 ≤ 97 → length (region input from 32) ≡ 32
+part-size input from size fits = region-length input from 32 (omega arith)
 
-  noise-at : (j : ℕ) → j < setOf set .d → getD (rowNoise set input) j (pos 0) ≡ noiseAt j
-  unfolding rowNoise seededNoise
-  noise-at j h = rw (ne-eqb set 0 (λ z. omega arith)) (turn-at noiseAt 0 (setOf set .d) j (pos 0) h ∙ ap noiseAt (zero-add j))
+-- the message is one of bytes
+message-bytes : (input : List ℕ) → length input ≡ 97 → Digit 8 input → Digit 8 (messageOf input)
+unfolding messageOf
+message-bytes input size bytes k = elim (decLt k 32) [
+  | yes inside ↦ rw (region-entry input 65 32 k 0 inside) (bytes (65 + k))
+  | no past ↦ rw (List·getD-eq-default (region input 65 32) 0 {n = k} (omega (arith, part-size input 65 size (omega arith)))) (omega arith)
+]
 
-  sent-at : (j : ℕ) → getD (rowSent set input) j 0 ≡ messageBit (setOf set) (messageOf input) j
-  unfolding rowSent seededSent messageBit
-  sent-at j = rw (ne-eqb set 0 (λ z. omega arith))
+-- an encryption set
+own-set : (set : ℕ) → 1 ≤ set → set ≤ 6 → isEncryption set ≡ true
+unfolding isEncryption
+own-set set some low = rw (le-leb 1 set some, le-leb set 6 low)
 
-  read-at : (j : ℕ) → getD (rowRead set input) j 0 ≡ messageBit (setOf set) (messageRead (setOf set) (keySeedOf input) (messageOf input) (sealingSeedOf input)) j
-  unfolding rowRead seededRead messageBit
-  read-at j = rw (ne-eqb set 0 (λ z. omega arith))
+-- what an input of sets 1 to 6 hands in fits
+input-fits : (set : ℕ) (input : List ℕ) → Digit 8 input → 1 ≤ set → set ≤ 6 → length input ≡ 97 → Fits set (encryption (keySeedOf input) (messageOf input) (sealingSeedOf input))
+unfolding keySeedOf sealingSeedOf messageOf
+input-fits set input bytes some low size =
+    (own-set set some low, part-size input 1 size (omega arith), part-size input 33 size (omega arith), part-size input 65 size (omega arith), message-bytes input size bytes)
 
-  seeded-read : set ≤ 6 → RowsRead set input
-  seeded-read low =
-      let claimed = claim (set-conditions set some (omega arith)) (keySeedOf input) (messageOf input) (sealingSeedOf input) in
-      record {
-        reads = λ j h small. read-at j ∙ claimed .reads j h (rw (noise-at j h) at small) ∙ sym (sent-at j);
-        misreads = λ j h large bounded. read-at j ∙ claimed .misreads j h (rw (noise-at j h) at large) (rw (noise-at j h) at bounded) ∙ ap (λ (n : ℕ). 1 - n) (sym (sent-at j));
-      }
+-- what it hands in, and what it answers after its checks
+handed-seeds : (set : ℕ) (input : List ℕ) → 1 ≤ set → handedIn set input ≡ encryption (keySeedOf input) (messageOf input) (sealingSeedOf input)
+unfolding handedIn
+handed-seeds set input some = rw (ne-eqb set 0 (λ z. omega arith))
 
--- and of every set
-rows-read : (set : ℕ) (input : List ℕ) → set ≤ 6 → length input ≡ inputBytes set → rowsAnswer set input ≡ accepted → RowsRead set input
-unfolding inputBytes rowsAnswer rowNoise rowSent rowRead
-rows-read zero input low size answer =
-    record {
-      reads = λ j h small. bench-reads input size answer j (omega (arith, bench-message)) .reads small;
-      misreads = λ j h large bounded. bench-reads input size answer j (omega (arith, bench-message)) .misreads large bounded;
-    }
-rows-read (suc set) input low size answer = seeded-read (suc set) input (omega arith) low
+answer-seeds : (set : ℕ) (input : List ℕ) → 1 ≤ set → rowsAnswer set input ≡ keyDraws (setOf set) (keySeedOf input)
+unfolding rowsAnswer
+answer-seeds set input some = rw (ne-eqb set 0 (λ z. omega arith))
+
+-- demand 3 on the rows of an accepted input
+rows-claim : (set : ℕ) (input : List ℕ) → Digit 8 input → set ≤ 6 → length input ≡ inputBytes set → rowsAnswer set input ≡ accepted → Demand3 set (handedIn set input)
+unfolding inputBytes rowsAnswer handedIn
+rows-claim zero input bytes low size answer = demand-3 0 (benchHanded input) (omega arith) tt (bench-drawn input size answer)
+rows-claim (suc set) input bytes low size answer =
+    rw (handed-seeds (suc set) input (omega arith))
+    (demand-3 (suc set) (encryption (keySeedOf input) (messageOf input) (sealingSeedOf input)) (omega arith)
+    (input-fits (suc set) input bytes (omega arith) low (size ∙ input-long (suc set) (omega arith))) (sym (answer-seeds (suc set) input (omega arith)) ∙ answer))
 
 -- demand 3 on an accepted sheet
-pub sheet-claim : (input : List ℕ) → sheetAnswer input ≡ accepted → RowsRead (setByte input) input
+pub sheet-claim : (input : List ℕ) → Digit 8 input → sheetAnswer input ≡ accepted → Demand3 (setByte input) (handedIn (setByte input) input)
 unfolding sheetAnswer
-sheet-claim input e = let is = input-is input (rowsAnswer (setByte input) input) e in rows-read (setByte input) input (is .1) (is .2) (is .3)
+sheet-claim input bytes e =
+    let is = input-is input (rowsAnswer (setByte input) input) e in rows-claim (setByte input) input bytes (is .1) (is .2) (is .3)
 
 module _ (text work : ℕ) where
   -- whether the slices lent fit
@@ -252,21 +298,22 @@ unfolding sheetWork
 work-is e = e
 
 -- what a sheet of an input answers and leaves in the slices lent
-module _ (input text work : List ℕ) where
+module _ (input text work : List ℕ) (bytes : Digit 8 input) where
   abbrev pub Left : ℕ → List ℕ → List ℕ → Type 0
   Left count text₁ work₁ =
       (count ≡ cond (sheetFits (length text) (length work)) (length (sheetOf input)) 0)
       × ((count ≤ 1024)
       × ((text₁ ≡ cond (sheetFits (length text) (length work)) (over text 0 (sheetOf input)) text)
-      × ((work₁ ≡ cond (sheetFits (length text) (length work)) (replicate (length work) 0) work) × (sheetAnswer input ≡ accepted → RowsRead (setByte input) input))))
+      × ((work₁ ≡ cond (sheetFits (length text) (length work)) (replicate (length work) 0) work)
+      × (sheetAnswer input ≡ accepted → Demand3 (setByte input) (handedIn (setByte input) input)))))
 
   -- a slice does not fit
   pub nothing-written : sheetFits (length text) (length work) ≡ false → Left 0 text work
-  nothing-written e = rw e (refl, (omega arith, (refl, (refl, sheet-claim input))))
+  nothing-written e = rw e (refl, (omega arith, (refl, (refl, sheet-claim input bytes))))
 
   -- both fit
   pub sheet-written : {count : ℕ} {text₁ work₁ : List ℕ} → sheetFits (length text) (length work) ≡ true → Printed text (sheetOf input) text₁ count → work₁ ≡ replicate (length work) 0 → Left count text₁ work₁
-  sheet-written e printed cleared = rw e (printed .count-is, (printed .short, (printed .text-is, (cleared, sheet-claim input))))
+  sheet-written e printed cleared = rw e (printed .count-is, (printed .short, (printed .text-is, (cleared, sheet-claim input bytes))))
 
 -- lengths of an input and of the rows of set 0
 pub bench-lengths : (set : ℕ) → set < 1 → (inputBytes set ≡ 14) × (setOf set .d ≡ 2)

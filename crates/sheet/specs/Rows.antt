@@ -6,7 +6,22 @@ use Prim.Native.Nat.{ℕ, _≤_}
 use lib.IntN.{ℤ}
 use lib.ListN.{length}
 use Rattle.calls.specs.Region.{over}
+use Rattle.sets.specs.declared.Parameters.{Parameters}
+use Rattle.packing.specs.Message.{messageBits}
+use Rattle.draws.specs.Calls.{inTurn}
+use Rattle.scheme.specs.Noise.{noise}
+use Rattle.scheme.specs.Bits.{messageRead}
 use Rattle.sheet_text.specs.Written.{Sizes}
+
+-- the rows of sets 1 to 6, from a key seed, a message and a sealing seed: the noise of every place, the bits sent, and the bits that decrypt reads
+unfoldable pub seededNoise : Parameters → List ℕ → List ℕ → List ℕ → List ℤ
+seededNoise p seed message sealing = inTurn (noise p seed message sealing) 0 (p .d)
+
+unfoldable pub seededSent : Parameters → List ℕ → List ℕ
+seededSent p message = messageBits (p .d) message
+
+unfoldable pub seededRead : Parameters → List ℕ → List ℕ → List ℕ → List ℕ
+seededRead p seed message sealing = messageBits (p .d) (messageRead p seed message sealing)
 
 -- noise, sent and read are these lists, and every size of noise is small enough to be printed
 pub record Rows (noises : List ℤ) (bitsSent bitsRead : List ℕ) (noise : List ℤ) (sent read : List ℕ) : Type 0 where

@@ -3,22 +3,20 @@
 use mathlib.Core.Path.{_≡_, refl}
 use mathlib.Core.Bool.{Bool, cond, not, _&&_}
 use mathlib.Core.List.{List, [], _∷_}
-use Prim.Native.Nat.{ℕ, _+_, _-_, _*_, _^_, _<_, max}
+use Prim.Native.Nat.{ℕ, _+_, _*_, _^_, max}
 use lib.Dec.{leb, ltb, eqb}
-use lib.IntN.{ℤ, pos, natAbs}
-use lib.ListN.{length, getD}
-use Rattle.maths.specs.Vector.{at}
+use lib.IntN.{ℤ}
+use lib.ListN.{length}
+use Rattle.maths.specs.Vector.{at, tabulate}
 use Rattle.calls.specs.Outcome.{Outcome, accepted, refused, refuse}
 use Rattle.calls.specs.Region.{region}
 use Rattle.sets.specs.declared.Parameters.{Parameters}
 use Rattle.sets.specs.Table.{setOf}
 use Rattle.sets.specs.Derived.{halfModulus}
-use Rattle.packing.specs.Message.{messageBits}
 use Rattle.draws.specs.Calls.{inTurn}
-use Rattle.scheme.specs.Noise.{noise}
-use Rattle.scheme.specs.Claim.{messageRead}
 use Rattle.scheme.specs.Answers.{keyDraws}
-use Rattle.bench_rows.specs.Bench.{benchAnswer, benchNoise, benchMessage, benchRead}
+use Rattle.claim.specs.Claim.{Handed, encryption, noiseAt, bitSent, bitRead}
+use Rattle.bench_rows.specs.Bench.{benchHanded, benchAnswer}
 use Rattle.sheet_text.specs.Text.{sheetText, refusedText}
 
 -- the ceiling of the last line: t × (k + 1) × (largest B/2) × η
@@ -43,26 +41,19 @@ sealingSeedOf input = region input 33 32
 unfoldable pub messageOf : List ℕ → List ℕ
 messageOf input = region input 65 32
 
--- the noise of every place of the sealing of a message, from a key seed and a sealing seed
-unfoldable pub seededNoise : Parameters → List ℕ → List ℕ → List ℕ → List ℤ
-seededNoise p seed message sealing = inTurn (noise p seed message sealing) 0 (p .d)
+-- what an input hands in: the numbers of set 0, or the seeds and the message of sets 1 to 6
+unfoldable pub handedIn : ℕ → List ℕ → Handed
+handedIn set input = cond (eqb set 0) (benchHanded input) (encryption (keySeedOf input) (messageOf input) (sealingSeedOf input))
 
--- the bits sent, and the bits that decrypt reads
-unfoldable pub seededSent : Parameters → List ℕ → List ℕ
-seededSent p message = messageBits (p .d) message
-
-unfoldable pub seededRead : Parameters → List ℕ → List ℕ → List ℕ → List ℕ
-seededRead p seed message sealing = messageBits (p .d) (messageRead p seed message sealing)
-
--- the numbers of the rows of an input: noise, bits sent, bits read
+-- the numbers of the rows: the noise that demand 3 speaks of, the bits sent and the bits read
 unfoldable pub rowNoise : ℕ → List ℕ → List ℤ
-rowNoise set input = cond (eqb set 0) (benchNoise input) (seededNoise (setOf set) (keySeedOf input) (messageOf input) (sealingSeedOf input))
+rowNoise set input = inTurn (noiseAt set (handedIn set input)) 0 (setOf set .d)
 
 unfoldable pub rowSent : ℕ → List ℕ → List ℕ
-rowSent set input = cond (eqb set 0) (benchMessage input) (seededSent (setOf set) (messageOf input))
+rowSent set input = tabulate (setOf set .d) (bitSent set (handedIn set input))
 
 unfoldable pub rowRead : ℕ → List ℕ → List ℕ
-rowRead set input = cond (eqb set 0) (benchRead input) (seededRead (setOf set) (keySeedOf input) (messageOf input) (sealingSeedOf input))
+rowRead set input = tabulate (setOf set .d) (bitRead set (handedIn set input))
 
 -- 2 for an empty input, 1 when the set is not 0 to 6, 2 when the length is not the set's; then what comes after
 unfoldable pub inputAnswer : List ℕ → Outcome → Outcome
@@ -98,13 +89,6 @@ sheetWork = 22521
 -- whether the slices lent for the text and the work have room
 unfoldable pub sheetFits : ℕ → ℕ → Bool
 sheetFits text work = leb 1024 text && eqb work sheetWork
-
--- demand 3 on the rows of an input, where N is the noise of a place: the bit sent is read while 2|N| < h, and the other one while h + 2 < 2|N| < 3h
-pub record RowsRead (set : ℕ) (input : List ℕ) : Type 0 where
-  pub reads : (j : ℕ) → j < setOf set .d → 2 * natAbs (getD (rowNoise set input) j (pos 0)) < halfModulus (setOf set)
-      → at (rowRead set input) j ≡ at (rowSent set input) j
-  pub misreads : (j : ℕ) → j < setOf set .d → halfModulus (setOf set) + 2 < 2 * natAbs (getD (rowNoise set input) j (pos 0))
-      → 2 * natAbs (getD (rowNoise set input) j (pos 0)) < 3 * halfModulus (setOf set) → at (rowRead set input) j ≡ 1 - at (rowSent set input) j
 
 -- an empty input is refused with 2
 sheetAnswer-example : sheetAnswer [] ≡ refused 2 0

@@ -10,7 +10,8 @@ ghost use Prim.Native.Nat.{_≤_};
 ghost use lib.ListN.{length, replicate};
 ghost use Rattle.calls.specs.Outcome.{accepted};
 ghost use Rattle.calls.specs.Region.{over};
-ghost use Rattle.sheet.specs.Sheet.{setByte, sheetAnswer, sheetOf, sheetFits, RowsRead};
+ghost use Rattle.claim.specs.Claim.{Demand3};
+ghost use Rattle.sheet.specs.Sheet.{setByte, handedIn, sheetAnswer, sheetOf, sheetFits};
 
 // Writes the sheet of an input at the front of `text`, and answers its length: 0, with nothing written, where a lent slice does not fit.
 pub fn sheet(input: &[u8], text: &mut [u8], work: &mut [u32]) -> usize
@@ -18,7 +19,8 @@ pub fn sheet(input: &[u8], text: &mut [u8], work: &mut [u32]) -> usize
     ensures short { λ r. ⌜ r ≤ 1024 ⌝ }
     ensures printed { λ _. ⌜ now (text .exit) ≡ cond (sheetFits (length (now (text .entry))) (length (now (work .entry)))) (over (now (text .entry)) 0 (sheetOf (now (input .entry)))) (now (text .entry)) ⌝ }
     ensures cleared { λ _. ⌜ now (work .exit) ≡ cond (sheetFits (length (now (text .entry))) (length (now (work .entry)))) (replicate (length (now (work .entry))) 0) (now (work .entry)) ⌝ }
-    ensures claim { λ _. ⌜ (sheetAnswer (now (input .entry)) ≡ accepted → RowsRead (setByte (now (input .entry))) (now (input .entry))) ⌝ }
+    ensures claim { λ _. ⌜ (sheetAnswer (now (input .entry)) ≡ accepted
+        → Demand3 (setByte (now (input .entry))) (handedIn (setByte (now (input .entry))) (now (input .entry)))) ⌝ }
 {
     if text.len() < 1024 {
         return 0;

@@ -7,8 +7,7 @@ ghost use Rattle.calls.specs.Outcome.{outcome, accepted};
 ghost use Rattle.sets.specs.Table.{setOf};
 ghost use Rattle.sets.specs.Derived.{publicKeyBytes, sealedBytes};
 ghost use Rattle.scheme.specs.Answers.{keyDraws, workLength};
-ghost use Rattle.sheet.specs.Sheet.{seededNoise, seededSent, seededRead};
-ghost use Rattle.sheet.specs.Rows.{Rows};
+ghost use Rattle.sheet.specs.Rows.{seededNoise, seededSent, seededRead, Rows};
 
 // Writes the rows, with slices for the keys, the ciphertext and the message read.
 fn rows_through(

@@ -3,3 +3,4 @@ pub mod Absorbing
 pub mod Squeezing
 pub mod Encoding
 pub mod Answering
+pub mod Laws

@@ -10,7 +10,7 @@ use lib.Seq.{take-append-le, take-append-add, take-all, length-take-le}
 use Rattle.calls.specs.Region.{over}
 use Rattle.calls.proofs.Region.{over-append, over-length, over-whole}
 use Rattle.keccak.specs.Keccak.{keccakF}
-use Rattle.sponge.specs.Sponge.{lanes, permuted, squeezed}
+use Rattle.sponge.specs.Sponge.{lanes, permuted, squeezed, sponge, shake256}
 use Rattle.sponge.proofs.Bytes.{lanes-length}
 
 -- a turn gives 136 bytes
@@ -18,6 +18,16 @@ pub squeezed-length : (s : List (List ℕ)) (n : ℕ) → length (squeezed s n) 
 unfolding squeezed
 squeezed-length s zero = refl
 squeezed-length s (suc n) = rw (length-append, squeezed-length s n, lanes-length) (omega arith)
+
+-- a sponge gives as many bytes as are asked for
+pub sponge-length : (suffix : ℕ) (m : List ℕ) (d : ℕ) → length (sponge suffix m d) ≡ d
+unfolding sponge
+sponge-length suffix m d = length-take-le d _ (rw squeezed-length (omega arith))
+
+-- so does SHAKE256
+pub shake256-length : (m : List ℕ) (d : ℕ) → length (shake256 m d) ≡ d
+unfolding shake256
+shake256-length m d = sponge-length _ m d
 
 -- more turns only append
 squeezed-more : (s : List (List ℕ)) (d n k : ℕ) → d ≤ 136 * n → take d (squeezed s (n + k)) ≡ take d (squeezed s n)

@@ -10,6 +10,7 @@ mod key_exchange;
 mod lengths;
 mod noise_sheet;
 mod on_numbers;
+mod self_test;
 
 // An answer in one number.
 pub fn code(answer: Answer) -> u64

@@ -6,3 +6,4 @@ pub mod Correlations
 pub mod Recovered
 pub mod Sums
 pub mod Front
+pub mod Laws

@@ -3,14 +3,11 @@
 use mathlib.Core.Path.{_≡_}
 use mathlib.Core.List.{List}
 use Prim.Native.Nat.{ℕ, _+_, _*_, _%_, _<_}
-use native.Mathlib.Nat.{mod-lt, zero-add}
-use native.Mathlib.Omega.{arith}
+use native.Mathlib.Nat.{mod-lt}
 use lib.ListN.{length}
 use Rattle.maths.specs.Vector.{at}
 use Rattle.maths.proofs.Vector.{tabulate-length, tabulate-at}
-use Rattle.calls.proofs.Filled.{Filled}
 use Rattle.transforms.specs.Ready.{AllBelow}
-use Rattle.transforms.proofs.Places as places
 use Rattle.transformed.specs.Stored.{products, accumulated}
 
 module _ (q : ℕ) (x y : List ℕ) where
@@ -38,7 +35,3 @@ module _ (q : ℕ) (total x y : List ℕ) where
   pub accumulated-at : (k : ℕ) → k < length total → at (accumulated q total x y) k ≡ (at total k + at x k * at y k) % q
   unfolding accumulated
   accumulated-at k h = tabulate-at (length total) _ k h
-
--- the number that a loop over all places reaches next is as it was
-pub ahead : {old ys new : List ℕ} {n k : ℕ} → Filled old 0 n ys k new → at new k ≡ at old k
-ahead {k = k} f = rw zero-add at (places.ahead k f (omega arith))

@@ -1,35 +1,24 @@
--- What is stored comes back: sent with the inverse of a set's root and recovered with the root, and the other way round.
+-- What is stored with the inverse of a set's root comes back with the root, and the first of the numbers that are recovered.
 -- Assumes nothing.
 use mathlib.Core.Path.{_≡_}
 use mathlib.Core.List.{List}
 use Prim.Native.Nat.{ℕ, _%_, _≤_, _<_}
 use native.Mathlib.Omega.{arith}
-use lib.ListN.{length, take}
+use lib.ListN.{take}
 use Rattle.maths.specs.Vector.{at}
 use Rattle.maths.specs.Transform as transforms
 use Rattle.maths.proofs.Vector.{tabulate-take}
-use Rattle.maths.proofs.Transform.{recover-send-at, recover-send, recover-send-inverse}
-use Rattle.transforms.specs.Ready.{AllBelow}
+use Rattle.maths.proofs.Transform.{recover-send-at}
 use Rattle.sets.specs.Table.{setOf}
 use Rattle.sets.specs.Derived.{transformSize}
-use Rattle.transformed.specs.Stored.{rowCount, sent, sentInverse, recovered, recoveredInverse}
-use Rattle.transformed.proofs.Sizes.{size-rows, rows-root, rows-root-inverse}
+use Rattle.transformed.specs.Stored.{rowCount, sentInverse, recovered, recoveredInverse}
+use Rattle.transformed.proofs.Sizes.{size-rows, rows-root-inverse}
 
 module _ (set : ℕ) (low : set < 13) (i m : ℕ) (xs : List ℕ) where
   -- a number of a vector that was stored with the inverse of the root
   pub recovered-at : (j : ℕ) → j < m → j < transformSize (setOf set) i → at (recovered (setOf set) i m (sentInverse (setOf set) i xs)) j ≡ at xs j % setOf set .q
   unfolding sentInverse recovered
   recovered-at j h k = recover-send-at (setOf set .row) (rowCount (setOf set) i) (rows-root-inverse set low i) m xs j h (omega (arith, size-rows set low i))
-
-  -- a vector of residues that was stored with the inverse of the root
-  pub recovered-whole : length xs ≡ m → m ≤ transformSize (setOf set) i → AllBelow (setOf set .q) m xs → recovered (setOf set) i m (sentInverse (setOf set) i xs) ≡ xs
-  unfolding sentInverse recovered
-  recovered-whole size fits below = recover-send-inverse (setOf set .row) (rowCount (setOf set) i) (rows-root set low i) m xs size (omega (arith, size-rows set low i)) (below .each)
-
-  -- a vector of residues that was stored with the root
-  pub recoveredInverse-whole : length xs ≡ m → m ≤ transformSize (setOf set) i → AllBelow (setOf set .q) m xs → recoveredInverse (setOf set) i m (sent (setOf set) i xs) ≡ xs
-  unfolding sent recoveredInverse
-  recoveredInverse-whole size fits below = recover-send (setOf set .row) (rowCount (setOf set) i) (rows-root set low i) m xs size (omega (arith, size-rows set low i)) (below .each)
 
 -- the first m of all numbers that are recovered
 module _ (set i m : ℕ) (xs : List ℕ) (fits : m ≤ transformSize (setOf set) i) where

@@ -6,13 +6,11 @@ use Prim.Native.Nat.{ℕ, zero, suc, _+_, _*_, _/_, _%_, _≤_, _<_}
 use native.Mathlib.Nat.{div-add-mod', mod-lt, div-lt-iff-lt-mul, zero-add, mul-le-mul-right, mul-lt-mul-of-pos-left}
 use native.Mathlib.Omega.{arith}
 use lib.Arith.{digits-div, digits-mod}
-use lib.ListN.{length, take}
-use lib.Seq.{length-take-le}
+use lib.ListN.{length}
 use Rattle.maths.specs.Vector.{at, tabulate}
 use Rattle.maths.proofs.Vector.{tabulate-length, tabulate-at, equal-by-place}
 use Rattle.calls.specs.Region.{over}
-use Rattle.calls.proofs.Region.{over-inside, over-outside}
-use Rattle.calls.proofs.Filled.{Filled}
+use Rattle.calls.proofs.Region.{over-inside}
 
 module _ {n b j : ℕ} (a i : ℕ) (h : b < n) (k : j < n) (e : a * n + b ≡ i * n + j) where
   -- equal places have equal rows
@@ -50,12 +48,6 @@ module _ (xs : List ℕ) (n : ℕ) (f : ℕ → ℕ) (fits : n ≤ length xs) wh
 -- the places of a list whose front was written by a formula
 pub loaded : {column : List ℕ} (zeros : List ℕ) (m : ℕ) (f : ℕ → ℕ) → column ≡ over zeros 0 (tabulate m f) → m ≤ length zeros → (j : ℕ) → j < m → f j ≡ at column j
 loaded zeros m f e fits j h = rw e (sym (front-at zeros m f fits j h))
-
--- a number that a loop over a region has not reached yet is as it was
-pub ahead : {old ys new : List ℕ} {start n i : ℕ} (k : ℕ) → Filled old start n ys i new → i ≤ k → at new (start + k) ≡ at old (start + k)
-ahead {old} {ys} {start = start} {i = i} k f h =
-    let size : length (take i ys) ≡ i = length-take-le i ys (omega (arith, f .entries, f .within)) in
-    rw (f .written) (over-outside old start (take i ys) (omega (arith, f .room, f .within)) (start + k) 0 (λ j l e. omega arith))
 
 -- the end of a row
 pub row-end : {r δ : ℕ} (ρ : ℕ) → r < δ → r * ρ + ρ ≤ δ * ρ

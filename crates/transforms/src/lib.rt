@@ -244,14 +244,6 @@ pub fn forward_padded(
     forward_rows(x, powers, w, rows, row, q);
 }
 
-// The transform of `x`, stored in the order of 003.
-pub fn forward(x: &mut [u32], powers: &[u32], w: u32, rows: usize, row: usize, q: u32)
-    requires { ⌜ Ready q row rows w (now powers) × (length (now x) ≡ rows * row) × AllBelow q (rows * row) (now x) ⌝ }
-    ensures { λ _. ⌜ now (x .exit) ≡ send q row rows w (now (x .entry)) ⌝ }
-{
-    forward_padded(x, powers, w, rows, rows, row, q);
-}
-
 // What a stored vector was made from: the transform with the root `w`, the inverse of the one it was sent with, scaled by `e`.
 pub fn inverse(x: &mut [u32], powers: &[u32], w: u32, e: u32, rows: usize, row: usize, q: u32)
     requires { ⌜ Ready q row rows w (now powers) × (length (now x) ≡ rows * row) × AllBelow q (rows * row) (now x) × (e < q) ⌝ }

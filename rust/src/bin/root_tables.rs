@@ -31,7 +31,7 @@ pub fn setOWNER_ORDINAL(out: &mut [u32])
 ";
 
 const TABLE_PROOF: &str = "\
--- The table passes the test of recurrence and order, so it holds the powers of its root. Written by root_tables, not by hand.
+-- The table passes the test of recurrence, so it holds the powers of its root. Written by root_tables, not by hand.
 -- Assumes nothing.
 use mathlib.Core.Path.{refl, sym, _∙_}
 use borrow.Author.Needs.{needs}

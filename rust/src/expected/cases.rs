@@ -6,7 +6,7 @@ use crate::parameters::{set, Set};
 use crate::scheme::{decapsulate, decrypt, encapsulate, encrypt, exchange_key, key};
 
 /// Bytes of a public key, of a secret key and of a ciphertext, numbers of the work slice, modulus; by sets, the first and the last of which are none.
-const SETS: [[usize; 5]; 14] = [
+pub const SETS: [[usize; 5]; 14] = [
     [11552, 32, 2560, 12022, 17],
     [11552, 32, 2560, 12022, 240641],
     [13088, 32, 2976, 14328, 84481],
@@ -34,19 +34,23 @@ struct Case {
 }
 
 /// Writes what a call made at the front of a slice.
-fn put(slice: &mut [u8], made: &[u8]) {
+pub fn put(slice: &mut [u8], made: &[u8]) {
     slice[..made.len()].copy_from_slice(made);
 }
 
+/// The checks of a call: the set, which must be one of the scheme's own, then whether a length was changed.
+pub fn checked(is_exchange: bool, number: usize, change: usize) -> Result<Set, Refusal> {
+    match set(number) {
+        Some(s) if s.number == 0 => refusal(1, 0),
+        Some(s) if s.is_exchange() != is_exchange => refusal(8, 0),
+        Some(_) if change > 0 => refusal(2, 0),
+        found => found.map_or(refusal(1, 0), Ok),
+    }
+}
+
 impl Case {
-    /// The checks of a call: the set, which must be one of the scheme's own, then whether a length was changed.
     fn checked(&self, change: usize) -> Result<Set, Refusal> {
-        match set(self.number) {
-            Some(s) if s.number == 0 => refusal(1, 0),
-            Some(s) if s.is_exchange() != self.is_exchange => refusal(8, 0),
-            Some(_) if change > 0 => refusal(2, 0),
-            found => found.map_or(refusal(1, 0), Ok),
-        }
+        checked(self.is_exchange, self.number, change)
     }
 
     /// A line: the call, its answer, what is printed of its outputs, and the checksum of the work slice, which is cleared where the checks passed.

@@ -69,6 +69,11 @@ fn all_signed() -> String {
     errors.concat() + &(1..13).map(positions).collect::<String>() + &limits.concat()
 }
 
+/// Counts of results one below the limit.
+fn one_under() -> String {
+    residues_line(1, [12285, 4095, 0, 0]) + &errors_line(1, 4095, 4095) + &multipliers_line(12, 9216, 4096, 4095)
+}
+
 pub fn text() -> String {
-    every_set() + &all_residues() + &all_signed()
+    every_set() + &all_residues() + &all_signed() + &one_under()
 }

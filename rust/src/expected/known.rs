@@ -1,9 +1,10 @@
-//! What run_scheme reads and prints first: the known answers of an independent model (rust/vectors/titanium.txt), as that file has them.
+//! What run_scheme and run_bytes read and print first: the known answers of an independent model (rust/vectors/titanium.txt), as that file has them.
 
+use crate::sheet::sheet;
 use std::collections::HashMap;
 
 /// What is printed of a set: the message that is read, the keys and the ciphertext, or the shared keys.
-const NAMES: [&str; 10] = [
+const NAMES: [&str; 11] = [
     "set",
     "secret_key",
     "public_key_shake256",
@@ -14,6 +15,19 @@ const NAMES: [&str; 10] = [
     "message",
     "shared_key",
     "reject_key_with_bit_0_of_byte_0_flipped",
+    "c2_before_packing_first_8",
+];
+
+/// What the draws give of a set of the encryption scheme.
+const DRAWN: [&str; 8] = [
+    "set",
+    "s_hat_first_8",
+    "e_polynomial_0_first_8",
+    "e_polynomial_1_first_8",
+    "a_polynomial_0_first_4",
+    "a_polynomial_1_first_4",
+    "r_polynomial_0_first_8",
+    "r_last_8",
 ];
 
 type Values = HashMap<&'static str, &'static str>;
@@ -28,23 +42,52 @@ fn bytes(hex: &str) -> Vec<u8> {
     (0..hex.len() / 2).map(|i| u8::from_str_radix(&hex[2 * i..2 * i + 2], 16).unwrap()).collect()
 }
 
-/// For each set its number, key seed, sealing seed (zeros in the key exchange, which makes its own) and message.
-pub fn input() -> Vec<u8> {
+/// The number of a set, key seed, sealing seed (zeros in the key exchange, which makes its own) and message.
+fn case(set: &Values) -> Vec<u8> {
     let zeros = "00".repeat(32);
-    let seed = |set: &Values, name: &str| bytes(set.get(name).unwrap_or(&zeros.as_str()));
-    let case = |set: Values| {
-        let number: u8 = set["set"].parse().unwrap();
-        [vec![number], seed(&set, "key_seed"), seed(&set, "sealing_seed"), seed(&set, "message")].concat()
-    };
-    sets().into_iter().flat_map(case).collect()
+    let seed = |name: &str| bytes(set.get(name).unwrap_or(&zeros.as_str()));
+    [vec![set["set"].parse().unwrap()], seed("key_seed"), seed("sealing_seed"), seed("message")].concat()
 }
 
-/// The lines of each set; a key exchange gives no message.
+pub fn input() -> Vec<u8> {
+    sets().iter().flat_map(case).collect()
+}
+
+/// The sheet of a case of the encryption scheme; its largest noise is the known one.
+fn noise(set: &Values) -> String {
+    let Some(largest) = set.get("noise_largest_size") else {
+        return String::new();
+    };
+    let text = sheet(&case(set));
+    let first = text.lines().nth(1).and_then(|row| row.split(' ').nth(1)).unwrap();
+    assert_eq!(first.trim_start_matches('-'), *largest);
+    text
+}
+
+/// The lines of each set; a key exchange gives no message and no sheet.
 pub fn text() -> String {
     let line = |set: &Values, name: &&str| match set.get(name) {
         Some(_) if *name == "message" && set.contains_key("shared_key") => String::new(),
         Some(value) => format!("{name} {value}\n"),
         None => String::new(),
     };
-    sets().iter().map(|set| NAMES.iter().map(|name| line(set, name)).collect::<String>()).collect()
+    sets().iter().map(|set| NAMES.iter().map(|name| line(set, name)).collect::<String>() + &noise(set)).collect()
+}
+
+/// The sets whose draws are known.
+fn drawn() -> impl Iterator<Item = Values> {
+    sets().into_iter().filter(|set| set.contains_key("s_hat_first_8"))
+}
+
+/// For each of these its number, the seed of its secret, that of its public polynomials and that of its sealing.
+pub fn drawn_input() -> Vec<u8> {
+    let case = |set: Values| {
+        let seeds = [set["secret_key"], &set["public_key_first_48"][..64], set["sealing_seed"]].map(bytes);
+        [vec![set["set"].parse().unwrap()], seeds.concat()].concat()
+    };
+    drawn().flat_map(case).collect()
+}
+
+pub fn drawn_text() -> String {
+    drawn().map(|set| DRAWN.map(|name| format!("{name} {}\n", set[name])).concat()).collect()
 }

@@ -64,8 +64,9 @@ impl Run {
         let long_a = [4095, 4096, 4097].map(|n| [n, n, 1]);
         let long_b = [4095, 4096, 4097].map(|n| [1, n, n]);
         let middle = [4095, 4096, 4097].map(|n| [2048, n, n - 2047]);
-        let misfits = [[4097, 4096, 1], [1, 4096, 4097], [0, 0, 1], [0, 3, 4], [1, 0, 0], [4, 3, 0], [3, 4, 3], [3, 6, 3]];
-        let cases = short.iter().chain(&long_a).chain(&long_b).chain(&middle).chain(&misfits);
+        let misfits = [[4097, 4096, 1], [1, 4096, 4097], [0, 0, 1], [0, 3, 4], [1, 0, 0], [4, 3, 0]];
+        let one_off = [[3, 4, 3], [3, 6, 3], [2, 5, 3], [4, 5, 3], [3, 5, 2], [3, 5, 4]];
+        let cases = short.iter().chain(&long_a).chain(&long_b).chain(&middle).chain(&misfits).chain(&one_off);
         cases.map(|&case| self.both(case)).collect()
     }
 

@@ -10,4 +10,6 @@ pub mod report;
 pub mod samplers;
 pub mod sheets;
 pub mod sponge;
+pub mod ties;
 pub mod transforms;
+pub mod whole;

@@ -1,6 +1,7 @@
 //! What run_arithmetic prints of the calls on numbers.
 
-use super::report::{answer, number_sum, residues};
+use super::report::{answer, changed, number_sum, residues};
+use crate::draws::multiplier_bound;
 use crate::numbers::{key, reading, sealing};
 use crate::parameters::{set, Set};
 
@@ -9,12 +10,18 @@ const BENCH_MULTIPLIERS: [i32; 2] = [1, -2];
 const ERRORS: [i32; 16] = [4, 0, -4, 1, -1, 2, -3, 0, 3, -2, 1, 0, -1, 4, -4, 2];
 const MULTIPLIERS: [i32; 16] = [16, -16, 1, -1, 5, -9, 12, -3, 2, -2, 7, -11, 15, -6, 4, -8];
 
-/// One set (past the last set, the numbers of set 0), and what each call takes.
+/// One set (past the last set, the numbers of set 0), and what each call takes. Each vector of inputs has one number more than the set's length.
 struct Row {
     number: usize,
     s: Set,
-    wrong_error: i32,
-    wrong_multiplier: i32,
+}
+
+/// A case: which length is changed (0: none) and which number is wrong (0: none).
+type Case = (usize, usize);
+
+/// One length changed after the other, one wrong number after the other, then both at once.
+fn cases(lengths: usize, wrongs: usize) -> impl Iterator<Item = Case> {
+    (1..=lengths).map(|change| (change, 0)).chain((1..=wrongs).map(|wrong| (0, wrong))).chain([(1, 1)])
 }
 
 fn sum(numbers: &[u32], length: usize) -> u64 {
@@ -23,139 +30,151 @@ fn sum(numbers: &[u32], length: usize) -> u64 {
     number_sum(&out)
 }
 
-/// The numbers without the last where it is to be cut off.
-fn cut<T>(numbers: &[T], short: bool) -> &[T] {
-    &numbers[..numbers.len() - short as usize]
+/// What a call made, or as many sevens as it was lent.
+fn made_or(made: Vec<u32>, length: usize) -> Vec<u32> {
+    if made.is_empty() { vec![7; length] } else { made }
 }
 
-fn set_last<T>(numbers: &mut [T], wrong: bool, value: T) {
-    if wrong {
-        *numbers.last_mut().unwrap() = value;
-    }
-}
-
-fn repeated(numbers: &[i32], length: usize) -> Vec<i32> {
-    numbers.iter().cycle().take(length).copied().collect()
+fn repeated(bench: bool, figures: &[i32], numbers: &[i32], length: usize) -> Vec<i32> {
+    let mut out: Vec<i32> = (if bench { figures } else { numbers }).iter().cycle().take(length).copied().collect();
+    out.push(1);
+    out
 }
 
 impl Row {
     fn is_bench(&self) -> bool {
-        self.number == 0
+        self.s.number == 0
+    }
+
+    fn key_numbers(&self) -> usize {
+        self.s.t * (self.s.d + self.s.k)
+    }
+
+    fn figures_or(&self, figures: &[u32], length: usize, start: u64, q: u64) -> Vec<u32> {
+        let mut out = residues(length + 1, start, q);
+        if self.is_bench() {
+            out[..length].copy_from_slice(figures);
+        }
+        out
     }
 
     fn a(&self) -> Vec<u32> {
-        if self.is_bench() { vec![3, 5] } else { residues(self.s.t * self.s.n, 1, self.s.q) }
+        self.figures_or(&[3, 5], self.s.t * self.s.n, 1, self.s.q)
     }
 
     fn secret(&self) -> Vec<u32> {
-        if self.is_bench() { vec![1, 2, 3, 4] } else { residues(self.s.n + self.s.d + self.s.k - 1, 2, self.s.q) }
+        self.figures_or(&[1, 2, 3, 4], self.s.n + self.s.d + self.s.k - 1, 2, self.s.q)
     }
 
     fn message(&self) -> Vec<u32> {
-        if self.is_bench() { vec![1, 0] } else { residues(self.s.d, 3, 2) }
+        self.figures_or(&[1, 0], self.s.d, 3, 2)
     }
 
     fn errors(&self) -> Vec<i32> {
-        repeated(if self.is_bench() { &BENCH_ERRORS } else { &ERRORS }, self.s.t * (self.s.d + self.s.k))
+        repeated(self.is_bench(), &BENCH_ERRORS, &ERRORS, self.key_numbers())
     }
 
-    fn multipliers(&self) -> Vec<i32> {
-        repeated(if self.is_bench() { &BENCH_MULTIPLIERS } else { &MULTIPLIERS }, self.s.multipliers())
-    }
-
-    fn key(&self, short: usize, wrong: usize) -> (String, Vec<u32>) {
-        let (mut a, mut s, mut e, q) = (self.a(), self.secret(), self.errors(), self.s.q as u32);
-        if wrong == 1 {
-            a[0] = q;
+    /// Multipliers at both bounds with one sign, or with the other (10), or with a wrong one.
+    fn multipliers(&self, wrong: usize) -> Vec<i32> {
+        let (count, position) = (self.s.multipliers(), self.s.first_bound);
+        let mut r = repeated(self.is_bench(), &BENCH_MULTIPLIERS, &MULTIPLIERS, count);
+        let bound = |position| multiplier_bound(&self.s, position) as i32;
+        let (first, second) = (bound(position - 1), bound(position));
+        r[position - 1] = match wrong {
+            3 => first + 1,
+            4 => -first - 1,
+            10 => first,
+            _ => -first,
+        };
+        r[position] = match wrong {
+            5 => second + 1,
+            6 => -second - 1,
+            10 => -second,
+            _ => second,
+        };
+        match wrong {
+            7 => r[0] = 0,
+            8 => r[count - 1] = 0,
+            _ => {}
         }
-        set_last(&mut a, wrong == 2, q);
-        set_last(&mut s, wrong == 3, q);
-        set_last(&mut e, wrong == 4, self.wrong_error);
-        let results = e.len() - (short == 4) as usize;
-        let (a, s, e) = (cut(&a, short == 1), cut(&s, short == 2), cut(&e, short == 3));
-        let given = key(set(self.number), a, s, e, results);
+        r
+    }
+
+    fn key(&self, (change, wrong): Case) -> (String, Vec<u32>) {
+        let (mut a, mut s, mut e, q) = (self.a(), self.secret(), self.errors(), self.s.q as u32);
+        let lengths = [a.len() - 1, s.len() - 1, e.len() - 1, self.key_numbers()];
+        match wrong {
+            1 => a[0] = q,
+            2 => a[lengths[0] - 1] = q,
+            3 => s[lengths[1] - 1] = q,
+            4 => e[lengths[2] - 1] = self.s.eta as i32 + 1,
+            5 => e[lengths[2] - 1] = -(self.s.eta as i32) - 1,
+            _ => {}
+        }
+        let [n, m, o, results] = changed(lengths, change);
+        let given = key(set(self.number), &a[..n], &s[..m], &e[..o], results);
         let answer = answer(&given);
         let b = given.unwrap_or_default();
-        let line = format!("key {} {} {} {} {results} {answer} {}\n", self.number, a.len(), s.len(), e.len(), sum(&b, 10232));
-        (line, b)
+        (format!("key {} {n} {m} {o} {results} {answer} {}\n", self.number, sum(&b, 10233)), made_or(b, self.key_numbers()))
     }
 
-    fn sealing(&self, b: &[u32], short: usize, wrong: usize) -> (String, [Vec<u32>; 2]) {
-        self.sealing_with(b, self.multipliers(), short, wrong)
-    }
-
-    fn sealing_with(&self, b: &[u32], mut r: Vec<i32>, short: usize, wrong: usize) -> (String, [Vec<u32>; 2]) {
-        let (mut a, mut b, mut m) = (self.a(), b.to_vec(), self.message());
-        set_last(&mut a, wrong == 1, self.s.q as u32);
-        set_last(&mut b, wrong == 2, self.s.q as u32);
-        if wrong == 3 {
-            r[0] = 0;
+    fn sealing(&self, b: &[u32], (change, wrong): Case) -> (String, [Vec<u32>; 2]) {
+        let (mut a, mut b, r, mut m, q) = (self.a(), b.to_vec(), self.multipliers(wrong), self.message(), self.s.q as u32);
+        let lengths = [a.len() - 1, b.len(), r.len() - 1, m.len() - 1, self.s.n + self.s.k, self.s.d];
+        b.push(7);
+        match wrong {
+            1 => a[lengths[0] - 1] = q,
+            2 => b[lengths[1] - 1] = q,
+            9 => m[lengths[3] - 1] = 2,
+            _ => {}
         }
-        set_last(&mut r, wrong == 4, self.wrong_multiplier);
-        set_last(&mut m, wrong == 5, 2);
-        let results = [self.s.n + self.s.k - (short == 5) as usize, self.s.d - (short == 6) as usize];
-        let (a, b, r, m) = (cut(&a, short == 1), cut(&b, short == 2), cut(&r, short == 3), cut(&m, short == 4));
-        let given = sealing(set(self.number), a, b, r, m, results);
+        let lent = changed(lengths, change);
+        let given = sealing(set(self.number), &a[..lent[0]], &b[..lent[1]], &r[..lent[2]], &m[..lent[3]], [lent[4], lent[5]]);
         let answer = answer(&given);
         let (c1, c2) = given.unwrap_or_default();
-        let lengths = format!("{} {} {} {} {} {}", a.len(), b.len(), r.len(), m.len(), results[0], results[1]);
-        (format!("sealing {} {lengths} {answer} {} {}\n", self.number, sum(&c1, 3071), sum(&c2, 256)), [c1, c2])
+        let lent = lent.map(|length| length.to_string()).join(" ");
+        let line = format!("sealing {} {lent} {answer} {} {}\n", self.number, sum(&c1, 3072), sum(&c2, 257));
+        (line, [made_or(c1, lengths[4]), made_or(c2, lengths[5])])
     }
 
-    fn reading(&self, sealed: &[Vec<u32>; 2], short: usize, wrong: usize) -> String {
-        let ([mut c1, mut c2], mut s) = (sealed.clone(), self.secret());
-        set_last(&mut c1, wrong == 1, self.s.q as u32);
-        set_last(&mut c2, wrong == 2, self.s.q as u32);
-        set_last(&mut s, wrong == 3, self.s.q as u32);
-        let results = self.s.d - (short == 4) as usize;
-        let (c1, c2, s) = (cut(&c1, short == 1), cut(&c2, short == 2), cut(&s, short == 3));
-        let given = reading(set(self.number), c1, c2, s, results);
+    fn reading(&self, [c1, c2]: &[Vec<u32>; 2], (change, wrong): Case) -> String {
+        let (mut c1, mut c2, mut s, q) = (c1.clone(), c2.clone(), self.secret(), self.s.q as u32);
+        let lengths = [c1.len(), c2.len(), s.len() - 1, self.s.d];
+        c1.push(7);
+        c2.push(7);
+        match wrong {
+            1 => c1[lengths[0] - 1] = q,
+            2 => c2[lengths[1] - 1] = q,
+            3 => s[lengths[2] - 1] = q,
+            _ => {}
+        }
+        let [n, m, o, results] = changed(lengths, change);
+        let given = reading(set(self.number), &c1[..n], &c2[..m], &s[..o], results);
         let answer = answer(&given);
-        let bits = sum(&given.unwrap_or_default(), 256);
-        format!("reading {} {} {} {} {results} {answer} {bits}\n", self.number, c1.len(), c2.len(), s.len())
+        format!("reading {} {n} {m} {o} {results} {answer} {}\n", self.number, sum(&given.unwrap_or_default(), 257))
     }
 
-    /// A sealing with one multiplier at a position in place of the one there.
-    fn with_multiplier(&self, position: usize, multiplier: i32) -> String {
-        let (b, mut r) = (residues(self.s.t * (self.s.d + self.s.k), 4, self.s.q), self.multipliers());
-        r[position] = multiplier;
-        let (negative, size) = ((multiplier < 0) as usize, multiplier.unsigned_abs());
-        format!("multiplier {position} {negative} {size}\n") + &self.sealing_with(&b, r, 0, 0).0
-    }
-
-    /// Multipliers just at and just above each bound, and 0, at the last position of the first bound and the first position of the second.
-    fn bounds(&self) -> String {
-        assert!(self.s.b1 < self.s.b2 && self.s.first_bound < self.s.multipliers());
-        let (first, second) = (1 << self.s.b1, 1 << self.s.b2);
-        let multipliers = [first, first + 1, second, second + 1].into_iter().flat_map(|size| [size, -size]).chain([0]);
-        let positions = [self.s.first_bound - 1, self.s.first_bound];
-        multipliers.flat_map(|multiplier| positions.map(|position| self.with_multiplier(position, multiplier))).collect()
+    /// Reads numbers at both ties of the rounding, 2w = h and 2w = 3h, and beside them; c1 is 0, so that w is c2.
+    fn ties(&self) -> String {
+        assert!(self.s.half() % 2 == 0);
+        let (low, high) = (self.s.half() as u32 / 2, self.s.half() as u32 / 2 * 3);
+        let mut c2 = vec![low, high, low - 1, low + 1, high - 1, high + 1];
+        c2.resize(self.s.d, 0);
+        format!("tie {}", self.reading(&[vec![0; self.s.n + self.s.k], c2], (0, 0)))
     }
 
     fn text(&self) -> String {
-        let keys = [(1, 0), (2, 0), (3, 0), (4, 0), (0, 1), (0, 2), (0, 3), (0, 4), (1, 1)];
-        let short = [(1, 0), (2, 0), (3, 0), (4, 0), (5, 0), (6, 0)];
-        let wrong = [(0, 1), (0, 2), (0, 3), (0, 4), (0, 5), (6, 1)];
-        let readings = [(1, 0), (2, 0), (3, 0), (4, 0), (0, 1), (0, 2), (0, 3), (4, 3), (0, 0)];
-        let mut text = keys.map(|(short, wrong)| self.key(short, wrong).0).concat();
-        let (line, b) = self.key(0, 0);
+        let mut text: String = cases(8, 5).map(|case| self.key(case).0).collect();
+        let (line, b) = self.key((0, 0));
         text += &line;
-        let b = if b.is_empty() { vec![7; self.s.t * (self.s.d + self.s.k)] } else { b };
-        text += &[short, wrong].concat().iter().map(|&(short, wrong)| self.sealing(&b, short, wrong).0).collect::<String>();
-        let (line, [c1, c2]) = self.sealing(&b, 0, 0);
+        text += &cases(12, 10).map(|case| self.sealing(&b, case).0).collect::<String>();
+        let (line, sealed) = self.sealing(&b, (0, 0));
         text += &line;
-        let sealed = if c1.is_empty() { [vec![7; self.s.n + self.s.k], vec![7; self.s.d]] } else { [c1, c2] };
-        text + &readings.map(|(short, wrong)| self.reading(&sealed, short, wrong)).concat()
+        text += &cases(8, 3).chain([(0, 0)]).map(|case| self.reading(&sealed, case)).collect::<String>();
+        text + &self.ties()
     }
 }
 
-/// The row of a set, with an error and a multiplier that are too large.
-fn row(number: usize, wrong_error: i32, wrong_multiplier: i32) -> Row {
-    let s = set(number).or(set(0)).unwrap();
-    Row { number, s, wrong_error, wrong_multiplier }
-}
-
 pub fn text() -> String {
-    let rows = [row(0, 2, 3), row(1, -5, -257), row(9, 5, 33), row(12, -5, 257), row(13, 2, -3)];
-    rows.each_ref().map(Row::text).concat() + &rows[2].bounds()
+    (0..14).map(|number| Row { number, s: set(number).or(set(0)).unwrap() }.text()).collect()
 }

@@ -46,3 +46,12 @@ pub fn residues(length: usize, start: u64, q: u64) -> Vec<u32> {
     };
     (0..length).map(|_| next()).collect()
 }
+
+/// The lengths of the slices of a call, one of which is one more or one less: 1 and 2 are one more and one less of the first, and so on.
+pub fn changed<const N: usize>(mut lengths: [usize; N], change: usize) -> [usize; N] {
+    if change > 0 {
+        let length = &mut lengths[(change - 1) / 2];
+        *length = if change % 2 == 1 { *length + 1 } else { *length - 1 };
+    }
+    lengths
+}

@@ -1,6 +1,6 @@
 //! What run_scheme reads and prints last, and what noisesheet does.
 
-use super::report::{number_sum, pattern};
+use super::report::{byte_sum, changed, number_sum, pattern};
 use crate::arithmetic::{bit, middle_product};
 use crate::parameters::set;
 use crate::sheet::sheet;
@@ -15,7 +15,7 @@ fn known_inputs() -> Vec<Vec<u8>> {
 }
 
 /// 01's Bench input with one byte changed.
-fn changed(place: usize, byte: u8) -> Vec<u8> {
+fn with_byte(place: usize, byte: u8) -> Vec<u8> {
     let mut input = BENCH.to_vec();
     input[place] = byte;
     input
@@ -24,10 +24,10 @@ fn changed(place: usize, byte: u8) -> Vec<u8> {
 /// Inputs of set 0: 01's, every byte out of range, its neighbours within range, and lengths one off.
 fn bench_inputs() -> Vec<Vec<u8>> {
     let mut inputs = vec![BENCH.to_vec(), BENCH[..13].to_vec(), [&BENCH[..], &[0]].concat()];
-    inputs.extend((1..7).flat_map(|place| [changed(place, 16), changed(place, 17)]));
-    inputs.extend((7..10).flat_map(|place| [1, 255, 2, 254, 128].map(|byte| changed(place, byte))));
-    inputs.extend((10..12).flat_map(|place| [2, 254, 0, 3, 253, 128].map(|byte| changed(place, byte))));
-    inputs.extend((12..14).flat_map(|place| [1, 2].map(|byte| changed(place, byte))));
+    inputs.extend((1..7).flat_map(|place| [with_byte(place, 16), with_byte(place, 17)]));
+    inputs.extend((7..10).flat_map(|place| [1, 255, 2, 254, 128].map(|byte| with_byte(place, byte))));
+    inputs.extend((10..12).flat_map(|place| [2, 254, 0, 3, 253, 128].map(|byte| with_byte(place, byte))));
+    inputs.extend((12..14).flat_map(|place| [1, 2].map(|byte| with_byte(place, byte))));
     inputs
 }
 
@@ -61,7 +61,21 @@ fn made(noise: u32) -> String {
     format!("made {noise} done done {} {} {} {}\n", number_sum(&c1), number_sum(&c2), bits[0], bits[1])
 }
 
+/// The Bench sheet with the length of the text slice or of the work slice changed: what is answered and left in both.
+fn lent(change: usize) -> String {
+    let [text_bytes, numbers] = changed([1024, 22521], change);
+    let (mut text, mut work, mut written) = (vec![7; 1025], vec![7; 22522], 0);
+    if text_bytes >= 1024 && numbers == 22521 {
+        let sheet = sheet(&BENCH);
+        written = sheet.len();
+        text[..written].copy_from_slice(sheet.as_bytes());
+        work[..numbers].fill(0);
+    }
+    format!("lent {text_bytes} {numbers} {written} {} {}\n", byte_sum(&text), number_sum(&work))
+}
+
 pub fn text() -> String {
     let sheets: String = inputs().iter().map(|input| sheet(input)).collect();
-    sheets + &[3, 14, 4, 13, 12, 6, 11, 11, 12].map(made).concat()
+    let lent: String = (0..5).map(lent).collect();
+    sheets + &lent + &[3, 14, 4, 13, 12, 6, 11, 11, 12].map(made).concat()
 }

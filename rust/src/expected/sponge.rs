@@ -69,11 +69,18 @@ fn around(edge: usize) -> String {
         .collect()
 }
 
+/// One slice of each function with a length, the others of one byte.
+fn one_slice(slice: usize, n: usize) -> String {
+    let mut lengths = [1; 4];
+    lengths[slice] = n;
+    let shake = if slice < 2 { shake(lengths[0], lengths[1]) } else { String::new() };
+    fixed(lengths) + &extendable(lengths) + &shake
+}
+
+/// Each slice around the limit, then all of them at it.
 fn limits() -> String {
-    let shakes = [shake(LIMIT, LIMIT), shake(LIMIT + 1, 10), shake(10, LIMIT + 1)];
-    let fixed = [[LIMIT; 4], [LIMIT + 1, 1, 1, 1], [1, LIMIT + 1, 1, 1]].map(fixed);
-    let extendable = [[1, 1, LIMIT + 1, 1], [1, 1, 1, LIMIT + 1]].map(extendable);
-    shakes.concat() + &fixed.concat() + &extendable.concat()
+    let each: String = (LIMIT - 1..=LIMIT + 1).flat_map(|n| (0..4).map(move |slice| one_slice(slice, n))).collect();
+    each + &shake(LIMIT, LIMIT) + &fixed([LIMIT; 4])
 }
 
 pub fn text() -> String {

@@ -205,6 +205,78 @@ pub fn decrypt(set: usize, secret_key: &[u8], ciphertext: &[u8], message: &mut [
     })
 }
 
+/// Key, encrypt and decrypt in one call, encryption scheme: the self-test of a delivery. Compare the message read with the message.
+#[allow(clippy::too_many_arguments)]
+pub fn seal_and_read(
+    set: usize,
+    seed: &[u8],
+    message: &[u8],
+    sealing_seed: &[u8],
+    public_key: &mut [u8],
+    secret_key: &mut [u8],
+    ciphertext: &mut [u8],
+    message_read: &mut [u8],
+    work: &mut [u32],
+) -> Result<(), Refused> {
+    answer(unsafe {
+        raw::titanium_seal_and_read(
+            set,
+            seed.as_ptr(),
+            seed.len(),
+            message.as_ptr(),
+            message.len(),
+            sealing_seed.as_ptr(),
+            sealing_seed.len(),
+            public_key.as_mut_ptr(),
+            public_key.len(),
+            secret_key.as_mut_ptr(),
+            secret_key.len(),
+            ciphertext.as_mut_ptr(),
+            ciphertext.len(),
+            message_read.as_mut_ptr(),
+            message_read.len(),
+            work.as_mut_ptr(),
+            work.len(),
+        )
+    })
+}
+
+/// Key, encapsulate and decapsulate in one call, key exchange: the self-test of a delivery. Compare the keys of both sides.
+#[allow(clippy::too_many_arguments)]
+pub fn share_a_key(
+    set: usize,
+    seed: &[u8],
+    message: &[u8],
+    public_key: &mut [u8],
+    secret_key: &mut [u8],
+    ciphertext: &mut [u8],
+    sent_key: &mut [u8],
+    received_key: &mut [u8],
+    work: &mut [u32],
+) -> Result<(), Refused> {
+    answer(unsafe {
+        raw::titanium_share_a_key(
+            set,
+            seed.as_ptr(),
+            seed.len(),
+            message.as_ptr(),
+            message.len(),
+            public_key.as_mut_ptr(),
+            public_key.len(),
+            secret_key.as_mut_ptr(),
+            secret_key.len(),
+            ciphertext.as_mut_ptr(),
+            ciphertext.len(),
+            sent_key.as_mut_ptr(),
+            sent_key.len(),
+            received_key.as_mut_ptr(),
+            received_key.len(),
+            work.as_mut_ptr(),
+            work.len(),
+        )
+    })
+}
+
 /// SHAKE256 of FIPS 202.
 pub fn shake256(input: &[u8], out: &mut [u8]) -> Result<(), Refused> {
     answer(unsafe { raw::titanium_shake256(input.as_ptr(), input.len(), out.as_mut_ptr(), out.len()) })

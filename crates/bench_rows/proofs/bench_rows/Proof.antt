@@ -1,8 +1,8 @@
--- `bench_rows::bench_rows` meets its contract: the first byte out of range decides, and demand 3 holds of what an input in range gives.
+-- `bench_rows::bench_rows` meets its contract: the first byte out of range decides.
 -- Assumes nothing.
-use mathlib.Core.Path.{refl, sym, _∙_}
-use Rattle.calls.proofs.Outcome.{leaves-accepted, leaves-refused, accepted-refused}
-use Rattle.bench_rows.proofs.Rows.{rows-refused, rows-accepted, bench-reads}
+use mathlib.Core.Path.{sym, _∙_}
+use Rattle.calls.proofs.Outcome.{leaves-accepted, leaves-refused}
+use Rattle.bench_rows.proofs.Rows.{rows-refused, rows-accepted}
 use borrow.Author.Needs.{needs}
 use Rattle.bench_rows.proofs.bench_rows.Statement.{statement}
 use Rattle.bench_rows.proofs.bench_rows.Tie as tie
@@ -11,7 +11,7 @@ returns : tie.Need-returns
 returns c =
     let start = c .before .before .before .before .before in
     let e = rows-refused (start .args .input .now) (c .before .first-unfit .result) (c .before .first-unfit .ensures) (c .if1 .taken) in
-    (sym e, (sym (leaves-refused _ _ e), (sym (leaves-refused _ _ e), (sym (leaves-refused _ _ e), λ done. absurd (accepted-refused done refl)))))
+    (sym e, (sym (leaves-refused _ _ e), (sym (leaves-refused _ _ e), sym (leaves-refused _ _ e))))
 
 fill-requires : tie.Need-fill-requires
 fill-requires c κs =
@@ -24,7 +24,7 @@ returns-2 c =
     let input = start .args .input .now in
     let e = rows-accepted input (c .before .before .before .before .before .before .before .before .before .before .first-unfit .result) (c .before .before .before .before .before .before .before .before .before .before .first-unfit .ensures) (c .before .before .before .before .before .before .before .before .before .if1 .left) in
     let rows = c .before .before .before .before .before .fill .ensures in
-    (sym e, (rows .0 ∙ sym (leaves-accepted _ _ e), (rows .1 ∙ sym (leaves-accepted _ _ e), (rows .2 ∙ sym (leaves-accepted _ _ e), λ done j h. bench-reads input (start .pre .0) e j h))))
+    (sym e, (rows .0 ∙ sym (leaves-accepted _ _ e), (rows .1 ∙ sym (leaves-accepted _ _ e), rows .2 ∙ sym (leaves-accepted _ _ e))))
 
 pub bench-rows-spec : {M : Type 1} → statement M
 bench-rows-spec =

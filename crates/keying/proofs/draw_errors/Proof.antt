@@ -11,7 +11,7 @@ use Rattle.sets.specs.declared.Parameters.{Parameters}
 use Rattle.sets.specs.Table.{setOf}
 use Rattle.sets.proofs.Rules.{rules, byteRules}
 use Rattle.samplers.specs.Seeded.{errorCount, errorsDrawn}
-use Rattle.samplers.proofs.Values.{errorsDrawn-length}
+use Rattle.samplers.proofs.Laws.{errorsDrawn-length}
 use Rattle.keying.specs.Held.{vectorsStart}
 use Rattle.keying.proofs.Room.{vectors-room, secret-room}
 use Rattle.calls.proofs.Parts.{part-length}

@@ -13,7 +13,7 @@ use Rattle.samplers.specs.Seeded.{errorCount, errorsDrawn, secretCounter}
 use Rattle.scheme.specs.Encryption.{errors}
 use Rattle.calls.proofs.Parts.{front-length}
 use Rattle.sets.proofs.Rules.{rules-of, byteRules-of}
-use Rattle.sealing.proofs.Sealed.{back-length}
+use Rattle.calls.proofs.Parts.{back-length}
 use Rattle.noise.proofs.Held.{work-room, secret-counter, never-refused, errors-written}
 use borrow.Author.Needs.{needs}
 use Rattle.noise.proofs.draw_errors.Statement.{statement}

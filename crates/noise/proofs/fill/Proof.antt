@@ -11,7 +11,7 @@ use mir.Facts.{toZ-ofZ}
 use Rattle.maths.specs.Vector.{at}
 use Rattle.calls.proofs.Filled.{filled-whole}
 use Rattle.draws.specs.Calls.{inTurn}
-use Rattle.draws.proofs.Positions.{Turned, turned-none, turned-more}
+use Rattle.draws.proofs.Laws.{Turned, turned-none, turned-more}
 use Rattle.noise.specs.Centred.{centredNoise}
 use borrow.Author.Needs.{needs}
 use Rattle.noise.proofs.fill.Statement.{statement}

@@ -15,7 +15,7 @@ use Rattle.samplers.specs.Seeded.{errorCount, multipliersDrawn}
 use Rattle.scheme.specs.Encryption.{errors}
 use Rattle.calls.proofs.Parts.{front-length}
 use Rattle.sets.proofs.Rules.{rules-of, byteRules-of}
-use Rattle.sealing.proofs.Sealed.{part-long}
+use Rattle.calls.proofs.Parts.{part-long}
 use Rattle.noise.specs.Centred.{Residues, centredNoise}
 use Rattle.noise.proofs.Held.{work-room, errors-part, multipliers-part}
 use Rattle.noise.proofs.Drawn.{map-residues, noise-drawn}

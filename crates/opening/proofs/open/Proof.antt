@@ -13,7 +13,7 @@ use Rattle.sets.specs.Derived.{transformSize}
 use Rattle.sets.proofs.Rules.{rules, byteRules}
 use Rattle.samplers.specs.declared.Advance.the-variants.{Counter}
 use Rattle.samplers.specs.Blocks.{uniform, uniformAnswer, onward, refusedBy, blocksRead}
-use Rattle.samplers.proofs.Answers.{Onto, answer-onto, answer-refusal}
+use Rattle.samplers.proofs.Laws.{Onto, answer-onto, answer-refusal}
 use Rattle.transformed.specs.Placed.{Placed}
 use Rattle.scheme.specs.Encryption.{storedSecret}
 use Rattle.opening.specs.Opened.{openedMessage}

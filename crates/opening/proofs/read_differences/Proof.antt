@@ -5,10 +5,9 @@ use Prim.Native.Nat.{_-_, _<_}
 use native.Mathlib.Nat.{zero-add}
 use native.Mathlib.Omega.{arith}
 use lib.ListN.{length}
-use Rattle.calls.proofs.Filled.{Filled, filled-none, filled-more, filled-whole}
+use Rattle.calls.proofs.Filled.{Filled, filled-none, filled-more, filled-whole, ahead}
 use Rattle.sets.specs.Table.{setOf}
 use Rattle.sets.proofs.Rules.{rules, byteRules}
-use Rattle.transformed.proofs.Pointwise.{ahead}
 use Rattle.opening.specs.Opened.{differenceBits}
 use Rattle.opening.proofs.Bits.{differenceBits-length, differenceBits-at}
 use borrow.Author.Needs.{needs}

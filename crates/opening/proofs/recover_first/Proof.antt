@@ -4,7 +4,7 @@ use mathlib.Core.Path.{_∙_}
 use native.Mathlib.Omega.{arith}
 use Rattle.sets.specs.Table.{setOf}
 use Rattle.sets.proofs.Rules.{rules, byteRules}
-use Rattle.packing.proofs.Digits.{unpack-length}
+use Rattle.packing.proofs.Laws.{unpack-length}
 use Rattle.opening.proofs.Modulo.{reduced-placed, recoveredInverse-reduced}
 use Rattle.opening.proofs.Room.{first-widths}
 use borrow.Author.Needs.{needs}

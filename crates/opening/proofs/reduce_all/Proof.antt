@@ -5,8 +5,7 @@ use Prim.Native.Nat.{ℕ, _-_, _%_, _<_}
 use native.Mathlib.Nat.{zero-add}
 use native.Mathlib.Omega.{arith}
 use lib.ListN.{length}
-use Rattle.calls.proofs.Filled.{Filled, filled-none, filled-more, filled-whole}
-use Rattle.transformed.proofs.Pointwise.{ahead}
+use Rattle.calls.proofs.Filled.{Filled, filled-none, filled-more, filled-whole, ahead}
 use Rattle.opening.specs.Opened.{reduced}
 use Rattle.opening.proofs.Modulo.{reduced-length, reduced-at}
 use borrow.Author.Needs.{needs}

@@ -11,7 +11,7 @@ use lib.Signed.{ltZ}
 use mir.Syntax.{w32}
 use mir.Val.{SFits}
 use mir.ValLaws.{toZ-ofZ}
-use Rattle.residues.proofs.Signed.{stored, raise-most, raised-fits, raised-stored}
+use Rattle.residues.proofs.Laws.{stored, raise-most, raised-fits, raised-stored}
 use Rattle.report.proofs.raised.Statement.{statement}
 use Rattle.report.proofs.raised.Tie as tie
 

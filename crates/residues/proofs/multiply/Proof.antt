@@ -4,7 +4,7 @@ use mathlib.Core.Path.{ap, _∙_}
 use Prim.Native.Nat.{ℕ, _%_}
 use native.Mathlib.Omega.{arith}
 use borrow.Author.Needs.{needs}
-use Rattle.residues.proofs.Laws.{product-below}
+use Rattle.residues.proofs.Remainder.{product-below}
 use Rattle.residues.proofs.multiply.Statement.{statement}
 use Rattle.residues.proofs.multiply.Tie as tie
 

@@ -1,7 +1,7 @@
 -- `residues::product` meets its contract: the product of two numbers of 32 bits fits 64.
 -- Assumes nothing.
 use borrow.Author.Needs.{needs}
-use Rattle.residues.proofs.Laws.{product-below}
+use Rattle.residues.proofs.Remainder.{product-below}
 use Rattle.residues.proofs.product.Statement.{statement}
 use Rattle.residues.proofs.product.Tie as tie
 

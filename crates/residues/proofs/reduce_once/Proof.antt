@@ -4,7 +4,7 @@ use Prim.Native.Nat.{_-_, _*_, _%_, _≤_}
 use mathlib.Core.Path.{_≡_}
 use native.Mathlib.Omega.{arith}
 use borrow.Author.Needs.{needs}
-use Rattle.residues.proofs.Laws.{carry, carried}
+use Rattle.residues.proofs.Remainder.{carry, carried}
 use Rattle.residues.proofs.reduce_once.Statement.{statement}
 use Rattle.residues.proofs.reduce_once.Tie as tie
 

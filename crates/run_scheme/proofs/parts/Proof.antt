@@ -11,7 +11,7 @@ abbrev Inv-loop : tie.InvT-loop
 Inv-loop input public₀ secret₀ sealed₀ i₀ public secret sealed i = (length public ≡ length public₀) × (length secret ≡ length secret₀) × (length sealed ≡ length sealed₀)
 
 abbrev μ-loop : tie.MeasureT-loop
-μ-loop input public₀ secret₀ sealed₀ i₀ public secret sealed i = 2022 - i
+μ-loop input public₀ secret₀ sealed₀ i₀ public secret sealed i = 2522 - i
 
 pub parts-spec : {M : Type 1} → statement M
 parts-spec =

@@ -10,7 +10,8 @@ use Rattle.scheme.specs.Answers.{allBelow}
 use Rattle.scheme.specs.Encryption.{keyNumbers}
 use Rattle.calls.proofs.Parts.{front-length}
 use Rattle.sets.proofs.Rules.{rules-of, byteRules-of}
-use Rattle.sealing.proofs.Sealed.{back-length, part-long, ends, key-numbers, key-answer, loaded}
+use Rattle.calls.proofs.Parts.{back-length, part-long}
+use Rattle.sealing.proofs.Sealed.{ends, key-numbers, key-answer, loaded}
 use borrow.Author.Needs.{needs}
 use Rattle.sealing.proofs.load.Statement.{statement}
 use Rattle.sealing.proofs.load.Tie as tie

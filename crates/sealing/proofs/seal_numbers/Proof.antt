@@ -10,7 +10,8 @@ use Rattle.sets.specs.Table.{setOf}
 use Rattle.scheme.specs.Encryption.{secondBytes}
 use Rattle.calls.proofs.Parts.{front-length}
 use Rattle.sets.proofs.Rules.{rules-of}
-use Rattle.sealing.proofs.Sealed.{back-length, rest-length, front-refused, both-accepted, ends}
+use Rattle.calls.proofs.Parts.{back-length, rest-length, front-refused}
+use Rattle.sealing.proofs.Sealed.{both-accepted, ends}
 use borrow.Author.Needs.{needs}
 use Rattle.sealing.proofs.seal_numbers.Statement.{statement}
 use Rattle.sealing.proofs.seal_numbers.Tie as tie

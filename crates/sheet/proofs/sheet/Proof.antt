@@ -11,12 +11,16 @@ use Rattle.sheet.proofs.sheet.Tie as tie
 returns : tie.Need-returns
 returns c =
     let args = c .before .before .before .before .args in
-    nothing-written (args .input .now) (args .text .now) (args .work .now) (text-short (length (args .text .now)) (length (args .work .now)) (c .if1 .taken))
+    let bytes = c .before .before .before .shared-slice-known .given in
+    nothing-written (args .input .now) (args .text .now) (args .work .now) (λ k. bytes k .fits)
+    (text-short (length (args .text .now)) (length (args .work .now)) (c .if1 .taken))
 
 returns-2 : tie.Need-returns-2
 returns-2 c =
     let args = c .before .before .before .before .before .args in
-    nothing-written (args .input .now) (args .text .now) (args .work .now) (work-other (length (args .text .now)) (length (args .work .now)) (c .before .if1 .left) (c .if2 .taken))
+    let bytes = c .before .before .before .before .shared-slice-known .given in
+    nothing-written (args .input .now) (args .text .now) (args .work .now) (λ k. bytes k .fits)
+    (work-other (length (args .text .now)) (length (args .work .now)) (c .before .if1 .left) (c .if2 .taken))
 
 write-requires : tie.Need-write-requires
 write-requires c κs = (c .before .before .before .if1 .left, work-is (c .before .before .if2 .left))
@@ -24,8 +28,9 @@ write-requires c κs = (c .before .before .before .if1 .left, work-is (c .before
 returns-3 : tie.Need-returns-3
 returns-3 c =
     let args = c .before .before .before .before .before .before .before .before .before .before .before .before .before .before .before .before .args in
+    let bytes = c .before .before .before .before .before .before .before .before .before .before .before .before .before .before .before .shared-slice-known .given in
     let made = c .before .before .before .before .before .before .before .before .write in
-    sheet-written (args .input .now) (args .text .now) (args .work .now) (both-fit (length (args .text .now)) (length (args .work .now)) (c .before .before .before .before .before .before .before .before .before .before .before .before .if1 .left) (c .before .before .before .before .before .before .before .before .before .before .before .if2 .left)) (made .ensures) (c .before .before .clear .ensures ∙ ap (λ (n : ℕ). replicate n 0) (made .kept .1 .1 .0))
+    sheet-written (args .input .now) (args .text .now) (args .work .now) (λ k. bytes k .fits) (both-fit (length (args .text .now)) (length (args .work .now)) (c .before .before .before .before .before .before .before .before .before .before .before .before .if1 .left) (c .before .before .before .before .before .before .before .before .before .before .before .if2 .left)) (made .ensures) (c .before .before .clear .ensures ∙ ap (λ (n : ℕ). replicate n 0) (made .kept .1 .1 .0))
 
 pub sheet-spec : {M : Type 1} → statement M
 sheet-spec =

@@ -7,9 +7,9 @@ use native.Mathlib.Omega.{arith}
 use lib.ListN.{length}
 use Rattle.maths.specs.Vector.{at}
 use Rattle.maths.proofs.Congruence.{mod-refl, mod-add, mod-remainder}
-use Rattle.calls.proofs.Filled.{Filled, filled-none, filled-more, filled-whole}
+use Rattle.calls.proofs.Filled.{Filled, filled-none, filled-more, filled-whole, ahead}
 use Rattle.transformed.specs.Stored.{accumulated}
-use Rattle.transformed.proofs.Pointwise.{accumulated-length, accumulated-at, ahead}
+use Rattle.transformed.proofs.Pointwise.{accumulated-length, accumulated-at}
 use borrow.Author.Needs.{needs}
 use Rattle.transformed.proofs.accumulate.Statement.{statement}
 use Rattle.transformed.proofs.accumulate.Tie as tie

@@ -5,9 +5,9 @@ use Prim.Native.Nat.{_-_, _<_}
 use native.Mathlib.Nat.{zero-add}
 use native.Mathlib.Omega.{arith}
 use lib.ListN.{length}
-use Rattle.calls.proofs.Filled.{Filled, filled-none, filled-more, filled-whole}
+use Rattle.calls.proofs.Filled.{Filled, filled-none, filled-more, filled-whole, ahead}
 use Rattle.transformed.specs.Stored.{products}
-use Rattle.transformed.proofs.Pointwise.{products-length, products-at, ahead}
+use Rattle.transformed.proofs.Pointwise.{products-length, products-at}
 use borrow.Author.Needs.{needs}
 use Rattle.transformed.proofs.multiply.Statement.{statement}
 use Rattle.transformed.proofs.multiply.Tie as tie

@@ -7,9 +7,9 @@ use lib.ListN.{length}
 use Rattle.maths.specs.Vector.{at}
 use Rattle.calls.specs.Region.{region}
 use Rattle.calls.proofs.Region.{region-entry}
-use Rattle.calls.proofs.Filled.{Filled, filled-none, filled-more, filled-all}
+use Rattle.calls.proofs.Filled.{Filled, filled-none, filled-more, filled-all, ahead-at}
 use Rattle.transforms.specs.Rows.{twisted}
-use Rattle.transforms.proofs.Places.{ahead, product-place}
+use Rattle.transforms.proofs.Places.{product-place}
 use Rattle.transforms.proofs.Ready.{table-length, table-below, all-short}
 use Rattle.transforms.proofs.Rows.{twisted-length, twisted-at}
 use Rattle.transforms.proofs.AllRows.{row-inside, row-length}
@@ -35,7 +35,7 @@ number : (c : tie.In-loop Inv-loop μ-loop) (p : ℕ) → let start = c .before 
 number c p e =
     let start = c .before .before .before .before .args in
     let turn = c .before .loop in
-    rw e (ahead (turn .c) (turn .inv) (omega arith) ∙ sym (region-entry (start .x .now) (start .r * start .row) (start .row) (turn .c) 0 (c .loop-test .taken)))
+    rw e (ahead-at (turn .c) (turn .inv) (omega arith) ∙ sym (region-entry (start .x .now) (start .r * start .row) (start .row) (turn .c) 0 (c .loop-test .taken)))
 
 loop-holds : tie.Need-loop-holds Inv-loop μ-loop
 loop-holds c =

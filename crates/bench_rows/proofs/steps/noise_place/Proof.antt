@@ -8,7 +8,7 @@ use lib.ListN.{getD}
 use mir.Syntax.{w64}
 use mir.Val.{SFits}
 use mir.Facts.{toZ-ofZ}
-use Rattle.numbers.proofs.Size.{entry-kept}
+use Rattle.numbers.proofs.Laws.{entry-kept}
 use Rattle.bench_rows.proofs.NoiseLaws.{noise-two}
 use borrow.Author.Needs.{needs}
 use Rattle.bench_rows.proofs.steps.noise_place.Statement.{statement}

@@ -1,7 +1,7 @@
 -- `bench_rows::steps::take_steps_through` meets its contract: the numbers of an input in range are those that the steps take.
 -- Assumes nothing.
 use mathlib.Core.Path.{_∙_}
-use Rattle.bench_rows.proofs.Numbers.{bench-inputs, bench-small}
+use Rattle.bench_rows.proofs.Numbers.{bench-drawn, bench-small}
 use Rattle.bench_rows.proofs.Rows.{noise-from, read-from}
 use borrow.Author.Needs.{needs}
 use Rattle.bench_rows.proofs.steps.take_steps_through.Statement.{statement}
@@ -19,7 +19,7 @@ read-bits-requires c κs =
     let start = c .before .before .before .before .before .before .before .before .before .before .before .before .before .before .before .before .before .before .before .before .before .before .before .before .before .before in
     let parts = c .before .before .before .before .before .before .before .before .before .before .before .before .before .before .before .before .copy-parts .ensures in
     let given = start .pre .0 in
-    (rw (parts .0, parts .1, parts .2, parts .3, given .sent) (bench-inputs (start .args .input .now) (given .size) (given .in-range)), start .pre .6)
+    (rw (parts .0, parts .1, parts .2, parts .3, given .sent) (bench-drawn (start .args .input .now) (given .size) (given .in-range)), start .pre .6)
 
 returns : tie.Need-returns
 returns c =

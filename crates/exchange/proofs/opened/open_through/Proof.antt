@@ -10,7 +10,7 @@ use Rattle.calls.proofs.Outcome.{refused-call}
 use Rattle.sets.specs.Table.{setOf}
 use Rattle.scheme.specs.Encryption.{keyNumbers}
 use Rattle.scheme.specs.Answers.{allBelow}
-use Rattle.sealing.proofs.Sealed.{rest-whole}
+use Rattle.calls.proofs.Parts.{rest-whole}
 use Rattle.exchange.proofs.Steps.{numbers-refuse, draw-refuses, opened-made}
 use borrow.Author.Needs.{needs}
 use Rattle.exchange.proofs.opened.open_through.Statement.{statement}

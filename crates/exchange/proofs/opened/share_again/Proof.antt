@@ -6,7 +6,7 @@ use Rattle.calls.specs.Outcome.{outcome}
 use Rattle.calls.proofs.Outcome.{leaves-refused}
 use Rattle.sets.specs.Table.{setOf}
 use Rattle.scheme.specs.Answers.{sealingDraws}
-use Rattle.sealing.proofs.Sealed.{rest-whole}
+use Rattle.calls.proofs.Parts.{rest-whole}
 use Rattle.exchange.proofs.Steps.{shared-again}
 use borrow.Author.Needs.{needs}
 use Rattle.exchange.proofs.opened.share_again.Statement.{statement}

@@ -7,7 +7,7 @@ use lib.ListN.{length}
 use Rattle.calls.specs.Outcome.{outcome}
 use Rattle.sets.specs.Table.{setOf}
 use Rattle.calls.proofs.Parts.{front-length}
-use Rattle.sealing.proofs.Sealed.{front-refused}
+use Rattle.calls.proofs.Parts.{front-refused}
 use Rattle.exchange.proofs.Steps.{sealed-whole}
 use borrow.Author.Needs.{needs}
 use Rattle.exchange.proofs.sealed.seal_digest.Statement.{statement}

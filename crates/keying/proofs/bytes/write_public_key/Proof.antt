@@ -10,7 +10,7 @@ use Rattle.sets.specs.Table.{setOf}
 use Rattle.sets.specs.Derived.{packedBytes, publicKeyBytes}
 use Rattle.sets.proofs.Rules.{rules, byteRules}
 use Rattle.packing.specs.Digits.{pack}
-use Rattle.packing.proofs.Digits.{pack-length}
+use Rattle.packing.proofs.Laws.{pack-length}
 use Rattle.keying.specs.Held.{vectorsStart}
 use Rattle.keying.proofs.Room.{seed-room, vectors-room, work-most}
 use Rattle.calls.proofs.Parts.{part-length, two-parts}

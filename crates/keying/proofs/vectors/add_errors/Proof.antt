@@ -6,8 +6,7 @@ use native.Mathlib.Nat.{zero-add}
 use native.Mathlib.Omega.{arith}
 use lib.ListN.{length}
 use Rattle.maths.specs.Vector.{at}
-use Rattle.calls.proofs.Filled.{Filled, filled-none, filled-more, filled-all}
-use Rattle.transformed.proofs.Pointwise.{ahead}
+use Rattle.calls.proofs.Filled.{Filled, filled-none, filled-more, filled-all, ahead}
 use Rattle.keying.specs.Held.{sums}
 use Rattle.keying.proofs.Sums.{sums-length, sums-at}
 use borrow.Author.Needs.{needs}

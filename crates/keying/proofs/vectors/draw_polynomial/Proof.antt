@@ -9,7 +9,7 @@ use Rattle.sets.specs.declared.Parameters.{Parameters}
 use Rattle.sets.specs.Table.{setOf}
 use Rattle.sets.proofs.Rules.{rules, byteRules}
 use Rattle.samplers.specs.Seeded.{publicDrawn}
-use Rattle.samplers.proofs.Answers.{publicCounter-most}
+use Rattle.samplers.proofs.Laws.{publicCounter-most}
 use Rattle.scheme.specs.Encryption.{publicPolynomial}
 use Rattle.sets.proofs.Transforms.{third-size}
 use Rattle.keying.proofs.Room.{counter-short}

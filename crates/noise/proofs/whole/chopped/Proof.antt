@@ -4,7 +4,7 @@ use mathlib.Core.Path.{ap}
 use Prim.Native.Nat.{ℕ, _-_, _%_}
 use native.Mathlib.Nat.{mod-le}
 use Rattle.packing.specs.Dropped.{chop}
-use Rattle.noise.proofs.Words.{shifted, shifted-some}
+use Rattle.maths.proofs.Power.{shifted, shifted-some}
 use borrow.Author.Needs.{needs}
 use Rattle.noise.proofs.whole.chopped.Statement.{statement}
 use Rattle.noise.proofs.whole.chopped.Tie as tie

@@ -6,10 +6,10 @@ use Rattle.run_arithmetic.proofs.products.all_lengths.Statement.{statem
 use Rattle.run_arithmetic.proofs.products.all_lengths.Tie as tie
 
 abbrev Inv-loop : tie.InvT-loop
-Inv-loop set a b i₀ i = i ≤ 21
+Inv-loop set a b i₀ i = i ≤ 25
 
 abbrev μ-loop : tie.MeasureT-loop
-μ-loop set a b i₀ i = 21 - i
+μ-loop set a b i₀ i = 25 - i
 
 pub all-lengths-spec : {M : Type 1} → statement M
 all-lengths-spec =

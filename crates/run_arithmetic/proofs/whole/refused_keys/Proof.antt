@@ -6,10 +6,10 @@ use Rattle.run_arithmetic.proofs.whole.refused_keys.Statement.{statemen
 use Rattle.run_arithmetic.proofs.whole.refused_keys.Tie as tie
 
 abbrev Inv-loop : tie.InvT-loop
-Inv-loop row i₀ i = i ≤ 9
+Inv-loop row i₀ i = i ≤ 14
 
 abbrev μ-loop : tie.MeasureT-loop
-μ-loop row i₀ i = 9 - i
+μ-loop row i₀ i = 14 - i
 
 pub refused-keys-spec : {M : Type 1} → statement M
 refused-keys-spec =
@@ -18,8 +18,7 @@ refused-keys-spec =
     Inv-loop
     μ-loop
     (λ c. search needs)
-    (λ c. search needs)
-    (λ c. search needs)
+    (λ c κs. search needs)
     (λ c κs. search needs)
     (λ c. search needs)
     (λ c. search needs)

@@ -7,8 +7,7 @@ use native.Mathlib.Omega.{arith}
 use lib.ListN.{length}
 use Rattle.maths.specs.Vector.{at, tabulate}
 use Rattle.maths.proofs.Vector.{tabulate-length, tabulate-at}
-use Rattle.calls.proofs.Filled.{Filled, filled-none, filled-more, filled-whole}
-use Rattle.transformed.proofs.Pointwise.{ahead}
+use Rattle.calls.proofs.Filled.{Filled, filled-none, filled-more, filled-whole, ahead}
 use Rattle.sealing.proofs.Correlating.{bit-times}
 use borrow.Author.Needs.{needs}
 use Rattle.sealing.proofs.second.add_bits.Statement.{statement}

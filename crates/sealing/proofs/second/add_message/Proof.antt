@@ -2,7 +2,7 @@
 -- Assumes nothing.
 use native.Mathlib.Omega.{arith}
 use lib.ListN.{length}
-use Rattle.packing.proofs.Message.{messageBits-below}
+use Rattle.packing.proofs.Laws.{messageBits-below}
 use Rattle.sets.proofs.Rules.{rules-of}
 use Rattle.sealing.proofs.Correlating.{message-added}
 use borrow.Author.Needs.{needs}

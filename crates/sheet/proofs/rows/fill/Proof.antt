@@ -30,7 +30,7 @@ returns : tie.Need-returns
 returns c =
     let start = c .before .before .before .before .before .before .before .before .before .before .before .before .before .before in
     let made = c .before .before .before .before .before .bench-rows .ensures in
-    bench-filled (start .args .set) (start .args .input .now) _ (start .args .noise .now) _ (start .args .sent .now) _ (start .args .read .now) _ (c .before .before .before .before .before .before .before .before .before .if1 .taken) (start .pre .1) (made .0) (made .1 .0) (made .1 .1 .0) (made .1 .1 .1 .0)
+    bench-filled (start .args .set) (start .args .input .now) _ (start .args .noise .now) _ (start .args .sent .now) _ (start .args .read .now) _ (c .before .before .before .before .before .before .before .before .before .if1 .taken) (start .pre .1) (made .0) (made .1 .0) (made .1 .1 .0) (made .1 .1 .1)
 
 work-length-requires : tie.Need-work-length-requires
 work-length-requires c κs = rules-of (c .before .before .before .before .before .before .args .set) (omega (arith, c .before .before .before .before .before .before .pre .0)) _ (c .parameters-of .ensures)

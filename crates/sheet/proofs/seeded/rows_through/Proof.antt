@@ -7,8 +7,8 @@ use Rattle.calls.specs.Outcome.{outcome, accepted}
 use Rattle.calls.proofs.Outcome.{accepted-refused, leaves-accepted}
 use Rattle.sets.specs.Table.{setOf}
 use Rattle.scheme.specs.Answers.{keyDraws}
-use Rattle.round_trip.proofs.Draws.{key-drawn}
-use Rattle.sheet.proofs.SeededLaws.{key-answer, whole-answer, rows-filled}
+use Rattle.claim.proofs.Draws.{key-drawn}
+use Rattle.sheet.proofs.SeededLaws.{whole-answer, rows-filled}
 use Rattle.sheet.proofs.seeded.rows_through.Statement.{statement}
 use Rattle.sheet.proofs.seeded.rows_through.Tie as tie
 
@@ -18,7 +18,7 @@ answered c =
     let start = c .before .before .before .before .before .before .before .before .before .before .before .before .before .before .before .before in
     let pre = start .pre in
     c .seal-and-read .ensures .0
-    ∙ whole-answer (start .args .set) (pre .0) (pre .1) (start .args .seed .now) (pre .2) _ _ _ (pre .5) (pre .6) (pre .12) _ _ _ _ (pre .3) (pre .4) (pre .7) (pre .8)
+    ∙ whole-answer (start .args .set) (pre .0) (pre .1) (start .args .seed .now) _ _ _ _ _ _ _ (pre .2) (pre .3) (pre .4) (pre .5) (pre .6) (pre .7) (pre .8) (pre .12)
 
 -- no draw was refused
 drawn : (c : tie.After-enum-told) → keyDraws (setOf (c .before .before .before .before .before .before .before .before .before .before .before .before .before .before .before .before .before .before .before .before .before .before .before .before .before .before .before .before .args .set)) (c .before .before .before .before .before .before .before .before .before .before .before .before .before .before .before .before .before .before .before .before .before .before .before .before .before .before .before .before .args .seed .now) ≡ accepted
@@ -33,8 +33,8 @@ noise-of-requires c κs =
     let pre = start .pre in
     let made = c .before .before .before .before .before .before .before .before .before .before .before .before .before .before .before .seal-and-read in
     let told = drawn (c .before .before .before) in
-    let keyed = key-answer (start .args .set) (pre .0) (pre .1) (start .args .seed .now) (pre .2) _ _ _ (pre .5) (pre .6) (pre .12) in
-    (pre .0, omega (arith, pre .1), pre .2, pre .3, pre .4, made .ensures .1 .0 ∙ leaves-accepted _ _ (keyed ∙ told), key-drawn (setOf (start .args .set)) (start .args .seed .now) told .0, pre .9, made .kept .1 .1 .1 .1 .1 .1 .1 .1 .0 ∙ pre .12)
+    let done = answered (c .before .before .before .before .before .before .before .before .before .before .before .before .before .before .before) ∙ told in
+    (pre .0, omega (arith, pre .1), pre .2, pre .3, pre .4, made .ensures .1 .0 ∙ leaves-accepted _ _ done, key-drawn (setOf (start .args .set)) (start .args .seed .now) told .0, pre .9, made .kept .1 .1 .1 .1 .1 .1 .1 .1 .0 ∙ pre .12)
 
 returns-2 : tie.Need-returns-2
 returns-2 c =
@@ -42,7 +42,7 @@ returns-2 c =
     let pre = start .pre in
     let made = c .before .before .before .before .before .before .before .before .before .before .before .before .before .before .before .before .before .before .before .before .before .before .before .before .before .before .before .before .seal-and-read in
     let told = drawn (c .before .before .before .before .before .before .before .before .before .before .before .before .before .before .before .before) in
-    let opened = made .ensures .1 .1 .1 .1 .0 ∙ leaves-accepted _ _ (sym (made .ensures .0) ∙ answered (c .before .before .before .before .before .before .before .before .before .before .before .before .before .before .before .before .before .before .before .before .before .before .before .before .before .before .before .before) ∙ told) in
+    let opened = made .ensures .1 .1 .1 .1 .0 ∙ leaves-accepted _ _ (answered (c .before .before .before .before .before .before .before .before .before .before .before .before .before .before .before .before .before .before .before .before .before .before .before .before .before .before .before .before) ∙ told) in
     (answered (c .before .before .before .before .before .before .before .before .before .before .before .before .before .before .before .before .before .before .before .before .before .before .before .before .before .before .before .before), λ _. rows-filled (setOf (start .args .set)) (start .args .seed .now) (start .args .message .now) (start .args .sealing .now) _ _ _ _ _ _ (c .before .before .before .before .before .before .before .before .before .before .before .before .noise-of .ensures .0) (c .before .before .before .before .before .before .before .before .before .before .before .before .noise-of .ensures .1) (c .before .before .before .before .before .before .before .bits-of .ensures) (pre .10) (c .before .before .bits-of2 .ensures) (pre .11) opened)
 
 pub rows-through-spec : {M : Type 1} → statement M

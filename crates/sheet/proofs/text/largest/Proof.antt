@@ -1,7 +1,7 @@
 -- 1 shifted by as many bits as a multiplier has.
 -- Assumes nothing.
 use native.Mathlib.Omega.{arith}
-use Rattle.noise.proofs.Words.{shifted}
+use Rattle.maths.proofs.Power.{shifted}
 use borrow.Author.Needs.{needs}
 use Rattle.sheet.proofs.text.largest.Statement.{statement}
 use Rattle.sheet.proofs.text.largest.Tie as tie

@@ -1,0 +1,83 @@
+-- After a key no call refuses a number or a draw: a public key and a ciphertext hold residues, and sealing and reading draw from the key's own seeds again.
+-- Assumes nothing.
+use mathlib.Core.Path.{_≡_, _∙_}
+use mathlib.Core.Bool.{true, not}
+use mathlib.Core.List.{List}
+use Prim.Native.Nat.{ℕ, _<_}
+use native.Mathlib.Omega.{arith}
+use borrow.Author.Tests.{lt-ltb, le-ltb, not-false}
+use lib.ListN.{length, take, drop}
+use lib.Seq.{take-at, drop-at}
+use Rattle.maths.specs.Vector.{at}
+use Rattle.calls.specs.Outcome.{accepted}
+use Rattle.calls.specs.Checks.{passing, below}
+use Rattle.calls.proofs.Outcome.{refuse-accepted}
+use Rattle.calls.proofs.Checks.{passing-all}
+use Rattle.sets.specs.declared.Parameters.{Parameters}
+use Rattle.samplers.specs.Seeded.{secretDrawn, publicDrawn}
+use Rattle.scheme.specs.Encryption.{secretSeed, publicSeed, publicKey, keyNumbers, ciphertext, cipherFirst}
+use Rattle.scheme.specs.Exchange.{innerSeed, exchangePublicKey, exchangeSecretKey}
+use Rattle.scheme.specs.Conditions.{Conditions}
+use Rattle.scheme.specs.Answers.{isTaken, allTaken, allBelow, keyDraws, sealingDraws, secretDraw, readingDraws, decapsulationDraws}
+use Rattle.scheme.proofs.Answers.{reading-passed}
+use Rattle.scheme.proofs.Bytes.{keySeed-back, keyNumbers-below, cipherFirst-below}
+
+-- numbers that are below q at every place pass the test
+pub all-below : (q : ℕ) (xs : List ℕ) → ((j : ℕ) → at xs j < q) → allBelow q xs ≡ true
+unfolding allBelow
+all-below q xs each =
+    let all : passing (below q) 0 xs ≡ length xs = passing-all (below q) 0 xs 0 .1 (λ k h. lt-ltb (at xs k) q (each k)) in
+    rw (le-ltb (passing (below q) 0 xs) (length xs) (omega arith))
+
+-- the draws of an accepted key took all their numbers
+pub key-drawn : (p : Parameters) (seed : List ℕ) → keyDraws p seed ≡ accepted
+    → (isTaken (secretDrawn p (secretSeed p seed)) ≡ true) × (allTaken (p .t) (publicDrawn p (publicSeed p seed)) ≡ true)
+unfolding keyDraws
+key-drawn p seed e =
+    let first = refuse-accepted (not (isTaken (secretDrawn p (secretSeed p seed)))) 5 0 _ e in
+    let second = refuse-accepted (not (allTaken (p .t) (publicDrawn p (publicSeed p seed)))) 5 0 _ (first .1) in
+    (not-false _ (first .0), not-false _ (second .0))
+
+module _ {p : Parameters} (c : Conditions p) (seed : List ℕ) (drawn : keyDraws p seed ≡ accepted) where
+  -- sealing under the public key
+  pub sealing-drawn : sealingDraws p (publicKey p seed) ≡ accepted
+  unfolding sealingDraws
+  sealing-drawn = rw (all-below (p .q) (keyNumbers p (publicKey p seed)) (keyNumbers-below c seed), keySeed-back c seed, key-drawn p seed drawn .1)
+
+  -- the draw of the secret
+  pub secret-drawn : secretDraw p (secretSeed p seed) ≡ accepted
+  unfolding secretDraw
+  secret-drawn = rw (key-drawn p seed drawn .0)
+
+  -- reading what was sealed, with the secret key
+  pub reading-drawn : (pk message sealing : List ℕ) → readingDraws p (secretSeed p seed) (ciphertext p pk message sealing) ≡ accepted
+  reading-drawn pk message sealing =
+      reading-passed p (secretSeed p seed) (ciphertext p pk message sealing)
+      (all-below (p .q) (cipherFirst p (ciphertext p pk message sealing)) (cipherFirst-below c pk message sealing))
+      ∙ secret-drawn
+
+module _ {p : Parameters} (c : Conditions p) (seed : List ℕ) (drawn : keyDraws p (innerSeed p seed) ≡ accepted) where
+  -- encapsulating under the public key of the key exchange
+  pub encapsulation-drawn : sealingDraws p (exchangePublicKey p seed) ≡ accepted
+  unfolding exchangePublicKey
+  encapsulation-drawn = sealing-drawn c (innerSeed p seed) drawn
+
+  -- the numbers of that key are below q
+  public-below : allBelow (p .q) (keyNumbers p (exchangePublicKey p seed)) ≡ true
+  unfolding exchangePublicKey
+  public-below = all-below (p .q) (keyNumbers p (publicKey p (innerSeed p seed))) (keyNumbers-below c (innerSeed p seed))
+
+  module _ (size : length seed ≡ 32) where
+    -- the two parts of the secret key of the key exchange
+    seed-part : take 32 (exchangeSecretKey p seed) ≡ seed
+    unfolding exchangeSecretKey
+    seed-part = take-at seed _ 32 size
+
+    public-part : drop 32 (exchangeSecretKey p seed) ≡ exchangePublicKey p seed
+    unfolding exchangeSecretKey
+    public-part = drop-at seed _ 32 size
+
+    -- decapsulating with that secret key, which reads and seals again
+    pub decapsulation-drawn : decapsulationDraws p (exchangeSecretKey p seed) ≡ accepted
+    unfolding decapsulationDraws
+    decapsulation-drawn = rw (seed-part, public-part, public-below, key-drawn p (innerSeed p seed) drawn .0) encapsulation-drawn

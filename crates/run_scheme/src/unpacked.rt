@@ -1,0 +1,51 @@
+// The numbers of c2 before packing, which no open call shows.
+
+// Prints a space and a number.
+fn print(x: u32) {
+    report::number(x as u64);
+}
+
+// Prints a name and numbers.
+pub fn line(name: &[u8], values: &[u32]) {
+    report::text(name);
+    let mut i: usize = 0;
+    while i < values.len() {
+        print(values[i]);
+        i += 1;
+    }
+    report::end();
+}
+
+// Writes them, where every slice has the set's length and every number of the public key is a residue.
+pub fn write(
+    set: usize,
+    public: &[u8],
+    message: &[u8],
+    seed: &[u8],
+    out: &mut [u32],
+    work: &mut [u32],
+) {
+    if set < 1 {
+        return;
+    }
+    if 12 < set {
+        return;
+    }
+    let p = sets::parameters_of(set);
+    if public.len() != sets::derived::public_key_bytes(p) {
+        return;
+    }
+    if seed.len() != 32 {
+        return;
+    }
+    if out.len() != p.d {
+        return;
+    }
+    if work.len() != scheme::work_length(p) {
+        return;
+    }
+    if !sealing::key_below(set, public, work) {
+        return;
+    }
+    sealing::numbers_before_packing(set, public, message, seed, out, work);
+}
