@@ -1,7 +1,7 @@
 /*
  * Titanium 1.1: encryption scheme, key exchange and the calls below them, as proved functions.
  *
- * Link target/staticlib/libtitanium.a (`rt staticlib titanium`; x86-64).
+ * Link target/staticlib/libtitanium.a (`library/build` makes it; x86-64).
  *
  * Slices. A slice is a pointer and a length; lengths count elements, not bytes. A pointer must be valid for its length, aligned for its
  * element type, and not null where the length is not 0. No slice that a call writes may overlap another slice of the same call. Under these

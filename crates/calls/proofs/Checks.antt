@@ -41,27 +41,6 @@ allOf-false (t ∷ ts) zero e = rw e
 allOf-false (true ∷ ts) (suc i) e = allOf-false ts i e
 allOf-false (false ∷ ts) (suc i) e = refl
 
--- the tests of two lists all hold: those of each hold
-pub both-hold : (xs ys : List Bool) → allOf (xs ++ ys) ≡ true → (allOf xs ≡ true) × (allOf ys ≡ true)
-unfolding allOf
-both-hold [] ys e = (refl, e)
-both-hold (true ∷ xs) ys e = both-hold xs ys e
-both-hold (false ∷ xs) ys e = let z : _≡_ {A = ℕ} 0 1 = cc in absurd (omega arith)
-
--- those of the first list hold: those of the second decide
-pub second-decides : (xs ys : List Bool) → allOf xs ≡ true → allOf (xs ++ ys) ≡ allOf ys
-unfolding allOf
-second-decides [] ys e = refl
-second-decides (true ∷ xs) ys e = second-decides xs ys e
-second-decides (false ∷ xs) ys e = let z : _≡_ {A = ℕ} 0 1 = cc in absurd (omega arith)
-
--- one of the first list fails: not all hold
-pub first-fails : (xs ys : List Bool) → allOf xs ≡ false → allOf (xs ++ ys) ≡ false
-unfolding allOf
-first-fails [] ys e = let z : _≡_ {A = ℕ} 0 1 = cc in absurd (omega arith)
-first-fails (true ∷ xs) ys e = first-fails xs ys e
-first-fails (false ∷ xs) ys e = refl
-
 -- a count above k: this entry passes, and so do at least k after it
 further-more : (t : Bool) (n k : ℕ) → k < further t n → (t ≡ true) × (k ≤ n)
 further-more true n k h = (refl, omega arith)
@@ -119,7 +98,8 @@ module _ {A : Type 0} (test : ℕ → A → Bool) where
       go false h ih = refl
 
   -- else it goes on in the second part, whose positions follow those of the first
-  pub passing-append-second : (start : ℕ) (xs ys : List A) → length xs ≤ passing test start xs → passing test start (xs ++ ys) ≡ length xs + passing test (start + length xs) ys
+  pub passing-append-second : (start : ℕ) (xs ys : List A) → length xs ≤ passing test start xs
+      → passing test start (xs ++ ys) ≡ length xs + passing test (start + length xs) ys
   unfolding passing
   passing-append-second start [] ys h = simp (add-zero, zero-add)
   passing-append-second start (x ∷ xs) ys h =

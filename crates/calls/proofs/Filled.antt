@@ -31,7 +31,8 @@ module _ {A : Type 0} {old : List A} {at n : ℕ} {ys : List A} where
       record { entries = e; room = h; within = omega arith; kept-length = refl; written = paste-zero old at ys ∙ paste-over old at ys 0 (omega arith) }
 
   -- a turn writes the next entry at its place
-  pub filled-more : {i k : ℕ} {new : List A} {x : A} (d : A) → Filled old at n ys i new → i < n → k ≡ at + i → x ≡ getD ys i d → Filled old at n ys (i + 1) (set new k x)
+  pub filled-more : {i k : ℕ} {new : List A} {x : A} (d : A) → Filled old at n ys i new → i < n → k ≡ at + i → x ≡ getD ys i d
+      → Filled old at n ys (i + 1) (set new k x)
   filled-more {i} {k} {new} {x} d f h p e =
       let was : new ≡ paste old at ys i = f .written ∙ sym (paste-over old at ys i (omega arith)) in
       record {

@@ -80,7 +80,8 @@ pub array-front : (room n : ℕ) → n ≤ room → length (take (n - 0) (drop 0
 array-front room n h = front-length (replicate room 0) n (rw length-replicate h)
 
 -- a list written in two parts, one after the other
-pub two-parts : {A : Type 0} (out new xs ys : List A) (n : ℕ) → new ≡ over out 0 xs → length xs ≡ n → length out ≡ n + length ys → take n new ++ (ys ++ drop (length new - n) (drop n new)) ≡ xs ++ ys
+pub two-parts : {A : Type 0} (out new xs ys : List A) (n : ℕ) → new ≡ over out 0 xs → length xs ≡ n → length out ≡ n + length ys
+    → take n new ++ (ys ++ drop (length new - n) (drop n new)) ≡ xs ++ ys
 two-parts {A = A} out new xs ys n written first whole =
     let room : 0 + length xs ≤ length out = omega arith in
     let kept : length new ≡ length out = ap length written ∙ over-length out 0 xs room in

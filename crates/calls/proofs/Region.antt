@@ -1,4 +1,5 @@
--- Laws of regions, for any entries and any places: the length, the entry at a place, a region of a list that was written over, one write over another, vectors one after the other.
+-- Laws of regions, for any entries and any places: the length, the entry at a place, a region of a list that was written over, one write over another, vectors
+-- one after the other.
 -- Assumes nothing.
 use mathlib.Core.Path.{_≡_, refl, sym, ap, _∙_}
 use mathlib.Core.List.{List, [], _∷_, _++_, append-assoc, append-nil}
@@ -8,7 +9,8 @@ use native.Mathlib.Nat.{zero-add, add-zero, mul-zero, mul-suc, mul-le-mul-left, 
 use native.Mathlib.Decide.{decLt}
 use native.Mathlib.Omega.{arith}
 use lib.ListN.{length, getD, take, drop, length-append, length-take, length-drop, take-append-drop, List·getD-append}
-use lib.Seq.{length-take-le, take-at, drop-at, drop-drop, take-add, take-append-le, drop-append-le, getD-take, getD-drop, getD-append-add, ext-getD, take-all, drop-length}
+use lib.Seq.{length-take-le, take-at, drop-at, drop-drop, take-add, take-append-le, drop-append-le, getD-take, getD-drop, getD-append-add, ext-getD, take-all}
+use lib.Seq.{drop-length}
 use Rattle.calls.specs.Region.{region, over, vector, joined}
 
 module _ {A : Type 0} where
@@ -161,7 +163,8 @@ module _ {A : Type 0} where
         | inl last ↦ rw (last, drop-at (joined t f) (f t) (n * t) front) (take-all n (f t) (omega (arith, size t (omega arith))))
         | inr before ↦
             let room : n * suc i ≤ n * t = mul-le-mul-left n before in
-            rw (drop-append-le (n * i) (joined t f) (f t) (omega arith), take-append-le n (drop (n * i) (joined t f)) (f t) (rw length-drop (omega arith))) (vector-joined n t f (λ j l. size j (omega arith)) i before)
+            rw (drop-append-le (n * i) (joined t f) (f t) (omega arith), take-append-le n (drop (n * i) (joined t f)) (f t) (rw length-drop (omega arith)))
+            (vector-joined n t f (λ j l. size j (omega arith)) i before)
       ]
 
   -- what holds of each entry of each vector, and of the entry read past the end, holds of each entry of all

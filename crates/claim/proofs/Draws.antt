@@ -18,7 +18,7 @@ use Rattle.samplers.specs.Seeded.{secretDrawn, publicDrawn}
 use Rattle.scheme.specs.Encryption.{secretSeed, publicSeed, publicKey, keyNumbers, ciphertext, cipherFirst}
 use Rattle.scheme.specs.Exchange.{innerSeed, exchangePublicKey, exchangeSecretKey}
 use Rattle.scheme.specs.Conditions.{Conditions}
-use Rattle.scheme.specs.Answers.{isTaken, allTaken, allBelow, keyDraws, sealingDraws, secretDraw, readingDraws, decapsulationDraws}
+use Rattle.scheme.specs.Answers.{isTaken, allTaken, allBelow, keyDraws, encryptDraws, secretDraw, decryptDraws, decapsulateDraws}
 use Rattle.scheme.proofs.Answers.{reading-passed}
 use Rattle.scheme.proofs.Bytes.{keySeed-back, keyNumbers-below, cipherFirst-below}
 
@@ -40,8 +40,8 @@ key-drawn p seed e =
 
 module _ {p : Parameters} (c : Conditions p) (seed : List ℕ) (drawn : keyDraws p seed ≡ accepted) where
   -- sealing under the public key
-  pub sealing-drawn : sealingDraws p (publicKey p seed) ≡ accepted
-  unfolding sealingDraws
+  pub sealing-drawn : encryptDraws p (publicKey p seed) ≡ accepted
+  unfolding encryptDraws
   sealing-drawn = rw (all-below (p .q) (keyNumbers p (publicKey p seed)) (keyNumbers-below c seed), keySeed-back c seed, key-drawn p seed drawn .1)
 
   -- the draw of the secret
@@ -50,7 +50,7 @@ module _ {p : Parameters} (c : Conditions p) (seed : List ℕ) (drawn : keyDraws
   secret-drawn = rw (key-drawn p seed drawn .0)
 
   -- reading what was sealed, with the secret key
-  pub reading-drawn : (pk message sealing : List ℕ) → readingDraws p (secretSeed p seed) (ciphertext p pk message sealing) ≡ accepted
+  pub reading-drawn : (pk message sealing : List ℕ) → decryptDraws p (secretSeed p seed) (ciphertext p pk message sealing) ≡ accepted
   reading-drawn pk message sealing =
       reading-passed p (secretSeed p seed) (ciphertext p pk message sealing)
       (all-below (p .q) (cipherFirst p (ciphertext p pk message sealing)) (cipherFirst-below c pk message sealing))
@@ -58,7 +58,7 @@ module _ {p : Parameters} (c : Conditions p) (seed : List ℕ) (drawn : keyDraws
 
 module _ {p : Parameters} (c : Conditions p) (seed : List ℕ) (drawn : keyDraws p (innerSeed p seed) ≡ accepted) where
   -- encapsulating under the public key of the key exchange
-  pub encapsulation-drawn : sealingDraws p (exchangePublicKey p seed) ≡ accepted
+  pub encapsulation-drawn : encryptDraws p (exchangePublicKey p seed) ≡ accepted
   unfolding exchangePublicKey
   encapsulation-drawn = sealing-drawn c (innerSeed p seed) drawn
 
@@ -78,6 +78,6 @@ module _ {p : Parameters} (c : Conditions p) (seed : List ℕ) (drawn : keyDraws
     public-part = drop-at seed _ 32 size
 
     -- decapsulating with that secret key, which reads and seals again
-    pub decapsulation-drawn : decapsulationDraws p (exchangeSecretKey p seed) ≡ accepted
-    unfolding decapsulationDraws
+    pub decapsulation-drawn : decapsulateDraws p (exchangeSecretKey p seed) ≡ accepted
+    unfolding decapsulateDraws
     decapsulation-drawn = rw (seed-part, public-part, public-below, key-drawn p (innerSeed p seed) drawn .0) encapsulation-drawn

@@ -44,23 +44,27 @@ unfolding region
 vector-most m xs i = simp length-take (omega arith)
 
 -- the residue of a place of a product of whole numbers
-product-residue : (q : ℕ) (x y : List ℤ) (l : ℕ) → 0 < q → Mod q (sum (suc l) (λ v. residue q (getD x v (pos 0)) * residue q (getD y (l - v) (pos 0)))) (residue q (productℤ x y l))
+product-residue : (q : ℕ) (x y : List ℤ) (l : ℕ) → 0 < q → Mod q (sum (suc l) (λ v. residue q (getD x v (pos 0)) * residue q (getD y (l - v) (pos 0))))
+    (residue q (productℤ x y l))
 unfolding productℤ
 product-residue q x y l some =
     rw (residue-sumℤ q (suc l) (λ v. getD x v (pos 0) *ℤ getD y (l - v) (pos 0)) some)
     (mod-trans
-    (mod-sum (suc l) _ (λ v. residue q (getD x v (pos 0) *ℤ getD y (l - v) (pos 0))) (λ v h. rw (residue-*ℤ q (getD x v (pos 0)) (getD y (l - v) (pos 0)) some) (mod-sym (mod-remainder q _))))
+    (mod-sum (suc l) _ (λ v. residue q (getD x v (pos 0) *ℤ getD y (l - v) (pos 0)))
+    (λ v h. rw (residue-*ℤ q (getD x v (pos 0)) (getD y (l - v) (pos 0)) some) (mod-sym (mod-remainder q _))))
     (mod-sym (mod-remainder q _)))
 
 -- the residue of the noise
 pub noise-residue : (p : Parameters) (e r : List ℤ) (j : ℕ) → 0 < p .q
-    → Mod (p .q) (sum (p .t) (λ i. sum (suc (p .k + j)) (λ l. at (vector (p .k + 1) (residues (p .q) r) i) l * residue (p .q) (getD (vector (p .d + p .k) e i) (p .k + j - l) (pos 0))))) (residue (p .q) (numbersNoise p e r j))
+    → Mod (p .q) (sum (p .t) (λ i. sum (suc (p .k + j)) (λ l. at (vector (p .k + 1) (residues (p .q) r) i) l * residue (p .q)
+    (getD (vector (p .d + p .k) e i) (p .k + j - l) (pos 0))))) (residue (p .q) (numbersNoise p e r j))
 unfolding numbersNoise
 noise-residue p e r j some =
     rw (residue-sumℤ (p .q) (p .t) (λ i. productℤ (vector (p .k + 1) r i) (vector (p .d + p .k) e i) (p .k + j)) some)
     (mod-trans
     (mod-sum (p .t) _ (λ i. residue (p .q) (productℤ (vector (p .k + 1) r i) (vector (p .d + p .k) e i) (p .k + j))) (λ i h.
     mod-trans
-    (mod-eq (sum-cong (suc (p .k + j)) _ (λ l. residue (p .q) (getD (vector (p .k + 1) r i) l (pos 0)) * residue (p .q) (getD (vector (p .d + p .k) e i) (p .k + j - l) (pos 0))) (λ l inside. rw (vector-residues (p .q) (p .k + 1) r i, residues-at))))
+    (mod-eq (sum-cong (suc (p .k + j)) _ (λ l. residue (p .q) (getD (vector (p .k + 1) r i) l (pos 0)) * residue (p .q)
+    (getD (vector (p .d + p .k) e i) (p .k + j - l) (pos 0))) (λ l inside. rw (vector-residues (p .q) (p .k + 1) r i, residues-at))))
     (product-residue (p .q) (vector (p .k + 1) r i) (vector (p .d + p .k) e i) (p .k + j) some)))
     (mod-sym (mod-remainder (p .q) _)))

@@ -17,7 +17,7 @@ use Rattle.numbers.specs.Noise.{numbersNoise}
 use Rattle.numbers.proofs.Laws.{vector-fits}
 use Rattle.samplers.specs.Seeded.{multipliersDrawn}
 use Rattle.samplers.proofs.Laws.{multipliersDrawn-length}
-use Rattle.scheme.specs.Encryption.{secretSeed, publicKey, errors, sealedNumbers, ciphertext, cipherSecond}
+use Rattle.scheme.specs.Encryption.{secretSeed, publicKey, errors, encryptedNumbers, ciphertext, cipherSecond}
 use Rattle.scheme.specs.Noise.{productNoise, droppedNoise, noise}
 use Rattle.claim.specs.Reversed.{reversedVectors}
 
@@ -55,8 +55,8 @@ module _ (p : Parameters) (r e : List ℤ) (size : length r ≡ p .t * (p .k + 1
 pub noise-on-numbers : (p : Parameters) (seed message seedr : List ℕ) (j : ℕ)
     → noise p seed message seedr j
     ≡ numbersNoise p (errors p (secretSeed p seed)) (reversedVectors (p .t) (p .k + 1) (multipliersDrawn p seedr)) j
-    +ℤ droppedNoise p (cipherSecond p (ciphertext p (publicKey p seed) message seedr)) (sealedNumbers p (publicKey p seed) message seedr) j
+    +ℤ droppedNoise p (cipherSecond p (ciphertext p (publicKey p seed) message seedr)) (encryptedNumbers p (publicKey p seed) message seedr) j
 unfolding noise multiplierCount
 noise-on-numbers p seed message seedr j =
-    ap (λ (z : ℤ). z +ℤ droppedNoise p (cipherSecond p (ciphertext p (publicKey p seed) message seedr)) (sealedNumbers p (publicKey p seed) message seedr) j)
+    ap (λ (z : ℤ). z +ℤ droppedNoise p (cipherSecond p (ciphertext p (publicKey p seed) message seedr)) (encryptedNumbers p (publicKey p seed) message seedr) j)
     (same-noise p (multipliersDrawn p seedr) (errors p (secretSeed p seed)) (multipliersDrawn-length p seedr) j)

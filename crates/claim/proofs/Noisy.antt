@@ -1,12 +1,13 @@
--- What is opened from a sealing under a key is the message bit under the noise (01, demand 3, on numbers), for any lists a, s, e, r and m.
+-- What is opened from a sealing under a key is the message bit under the noise (01, demand 3, on numbers), for any lists s, e and m, and any a and r of their
+-- lengths.
 -- Assumes nothing.
 use mathlib.Core.Path.{_≡_, sym, _∙_}
 use mathlib.Core.List.{List}
 use Prim.Native.Nat.{ℕ, suc, _+_, _-_, _*_, _/_, _%_, _≤_, _<_}
-use native.Mathlib.Nat.{zero-mul, zero-add, mod-lt, mod-add-div', mod-eq-of-lt, div-eq-of-lt, mul-add-div, mul-add-mod-self-left, add-zero}
+use native.Mathlib.Nat.{zero-mul, zero-add, mod-lt, mod-add-div'}
 use native.Mathlib.Omega.{arith}
 use lib.IntN.{ℤ, pos}
-use lib.ListN.{length, getD}
+use lib.ListN.{length, getD, length-map}
 use Rattle.maths.specs.Vector.{at}
 use Rattle.maths.specs.Sum.{sum}
 use Rattle.maths.specs.Congruence.{Mod}
@@ -16,14 +17,13 @@ use Rattle.maths.proofs.Vector.{at-past}
 use Rattle.maths.proofs.Sum.{sum-cong, sum-pad}
 use Rattle.maths.proofs.Cancelling.{exchanged}
 use Rattle.maths.proofs.Congruence.{mod-refl, mod-eq, mod-trans, mod-add, mod-remainder, mod-add-multiple}
-use Rattle.calls.proofs.Region.{region-entry}
 use Rattle.sets.specs.declared.Parameters.{Parameters}
 use Rattle.sets.specs.Derived.{halfModulus}
 use Rattle.sets.specs.Rules.{Rules}
 use Rattle.calls.specs.Region.{vector}
-use Rattle.numbers.specs.Scheme.{residues, key, sumOfProducts, firstPart, secondPart, opened}
+use Rattle.numbers.specs.Scheme.{residues, key, sumOfProducts, firstPart, sumOfMiddles, secondPart, opened}
 use Rattle.numbers.specs.Noise.{numbersNoise}
-use Rattle.numbers.proofs.Laws.{vector-fits, key-at, firstPart-length, firstPart-at, secondPart-at}
+use Rattle.numbers.proofs.Laws.{key-vector, keyPart-at, firstPart-length, firstPart-at, middles-products, secondPart-at, opened-at}
 use Rattle.claim.proofs.NoiseResidue.{vector-most, noise-residue}
 
 -- a place of a product, as a correlation with the second factor read backwards from that place
@@ -44,19 +44,14 @@ cancelled q x y c some same =
     let whole : x + y + (q - x % q) ≡ y + (x / q + 1) * q = omega (arith, mod-add-div' x q, mod-lt x some) in
     mod-trans (mod-remainder q _) (mod-trans (mod-add same (mod-refl (q - x % q))) (mod-trans (mod-eq whole) (mod-add-multiple q y (x / q + 1))))
 
-module _ (p : Parameters) (kept : Rules p) (a s : List ℕ) (e : List ℤ) where
+module _ (p : Parameters) (kept : Rules p) (a s : List ℕ) (e : List ℤ) (a-length : length a ≡ p .t * p .n) where
   -- place l of b_i is place n − 1 + l of a_i · s, plus the error
-  key-vector : (i l : ℕ) → i < p .t → l < p .d + p .k
-      → Mod (p .q) (at (vector (p .d + p .k) (key p a s e) i) l) (product (vector (p .n) a i) s (p .n - 1 + l) + residue (p .q) (getD (vector (p .d + p .k) e i) l (pos 0)))
-  key-vector i l h inside =
-      let w = p .d + p .k in
-      let quotient : (w * i + l) / w ≡ i = mul-add-div {m = w} (omega arith) i l ∙ rw (div-eq-of-lt {n = l} {m = w} inside, add-zero) in
-      let remainder : (w * i + l) % w ≡ l = mul-add-mod-self-left w i l ∙ mod-eq-of-lt inside in
-      let place : at (vector w (key p a s e) i) l ≡ (product (vector (p .n) a i) s (p .n - 1 + l) + residue (p .q) (getD (vector w e i) l (pos 0))) % p .q =
-      region-entry (key p a s e) (w * i) w l 0 inside ∙ key-at p a s e (w * i + l) (omega (arith, vector-fits w (p .t) i h)) ∙ rw (quotient, remainder, region-entry e (w * i) w l (pos 0) inside) in
-      rw place (mod-remainder (p .q) _)
+  key-place : (i l : ℕ) → i < p .t → l < p .d + p .k
+      → Mod (p .q) (at (vector (p .d + p .k) (key p a s e) i) l)
+      (product (vector (p .n) a i) s (p .n - 1 + l) + residue (p .q) (getD (vector (p .d + p .k) e i) l (pos 0)))
+  key-place i l h inside = rw (key-vector p a s e i h, keyPart-at p a s e a-length i l h inside) (mod-remainder (p .q) _)
 
-  module _ (r : List ℤ) (m : List ℕ) (j : ℕ) (h : j < p .d) where
+  module _ (r : List ℤ) (m : List ℕ) (r-length : length r ≡ p .t * (p .k + 1)) (j : ℕ) (h : j < p .d) where
     -- vector i of the multipliers' residues
     multiplier : ℕ → List ℕ
     multiplier i = vector (p .k + 1) (residues (p .q) r) i
@@ -79,7 +74,7 @@ module _ (p : Parameters) (kept : Rules p) (a s : List ℕ) (e : List ℤ) where
         let same : product (vector (p .n) a i) s (p .n - 1 + (p .k + j - (0 + l))) ≡ correlation (p .n) (at (vector (p .n) a i)) secret-back (0 + l) =
         shifted (p .n) (p .n - 1 + (p .k + j - (0 + l))) (0 + l) (p .n + p .k - 1 + j) (vector (p .n) a i) s (vector-most (p .n) a i)
         (omega (arith, kept .some-n)) (omega (arith, kept .some-n)) in
-        rw (← same) (key-vector i (p .k + j - (0 + l)) inside (omega arith))
+        rw (← same) (key-place i (p .k + j - (0 + l)) inside (omega arith))
 
     -- the secret cancels
     sums : Mod (p .q) (sum (p .t) (λ i. correlation (p .k + 1) (at (multiplier i)) (key-back i) 0))
@@ -92,12 +87,14 @@ module _ (p : Parameters) (kept : Rules p) (a s : List ℕ) (e : List ℤ) where
         (λ l inside. rw (firstPart-at p a r l inside) (mod-remainder (p .q) _))
 
     -- the places of the middle products of r_i and b_i
-    sealed-back : sumOfProducts (p .t) (p .k + 1) (residues (p .q) r) (p .d + p .k) (key p a s e) (p .k + j)
-        ≡ sum (p .t) (λ i. correlation (p .k + 1) (at (multiplier i)) (key-back i) 0)
+    sealed-back : Mod (p .q) (sumOfMiddles p (residues (p .q) r) (key p a s e) j)
+        (sum (p .t) (λ i. correlation (p .k + 1) (at (multiplier i)) (key-back i) 0))
     unfolding sumOfProducts product multiplier key-back
     sealed-back =
-        sum-cong (p .t) _ _ (λ i inside.
-        backward (p .k + 1) (p .k + j) (multiplier i) (at (vector (p .d + p .k) (key p a s e) i)) (vector-most (p .k + 1) (residues (p .q) r) i) (omega arith))
+        mod-trans (middles-products p (residues (p .q) r) (key p a s e) j (length-map r (residue (p .q)) ∙ r-length) h)
+        (mod-eq (sum-cong (p .t) _ _ (λ i inside.
+        backward (p .k + 1) (p .k + j) (multiplier i) (at (vector (p .d + p .k) (key p a s e) i)) (vector-most (p .k + 1) (residues (p .q) r) i)
+        (omega arith))))
 
     -- the errors add up to the noise
     noise-sum : Mod (p .q) (sum (p .t) (λ i. correlation (p .k + 1) (at (multiplier i)) (error-back i) 0)) (residue (p .q) (numbersNoise p e r j))
@@ -105,7 +102,8 @@ module _ (p : Parameters) (kept : Rules p) (a s : List ℕ) (e : List ℤ) where
     noise-sum =
         mod-trans
         (mod-eq (sum-cong (p .t) _ _ (λ i inside.
-        sym (backward (p .k + 1) (p .k + j) (multiplier i) (λ l. residue (p .q) (getD (vector (p .d + p .k) e i) l (pos 0))) (vector-most (p .k + 1) (residues (p .q) r) i) (omega arith)))))
+        sym (backward (p .k + 1) (p .k + j) (multiplier i) (λ l. residue (p .q) (getD (vector (p .d + p .k) e i) l (pos 0)))
+        (vector-most (p .k + 1) (residues (p .q) r) i) (omega arith)))))
         (noise-residue p e r j (omega (arith, kept .prime .above)))
 
     -- c1 against the secret
@@ -118,11 +116,14 @@ module _ (p : Parameters) (kept : Rules p) (a s : List ℕ) (e : List ℤ) where
     second : Mod (p .q) (at (secondPart p (key p a s e) r m) j)
         (product (firstPart p a r) s (p .n + p .k - 1 + j) + (residue (p .q) (numbersNoise p e r j) + halfModulus p * at m j))
     second =
-        rw (secondPart-at p (key p a s e) r m j h, sealed-back, ← first-back)
+        rw (secondPart-at p (key p a s e) r m j h, ← first-back)
         (mod-trans (mod-remainder (p .q) _)
-        (mod-trans (mod-add (mod-trans sums (mod-add (mod-refl _) noise-sum)) (mod-refl (halfModulus p * at m j))) (mod-eq (omega arith))))
+        (mod-trans (mod-add (mod-trans sealed-back (mod-trans sums (mod-add (mod-refl _) noise-sum))) (mod-refl (halfModulus p * at m j)))
+        (mod-eq (omega arith))))
 
     -- what is opened is the noise plus h times the message bit
-    pub opened-noisy : Mod (p .q) (opened p (firstPart p a r) (secondPart p (key p a s e) r m) s j) (residue (p .q) (numbersNoise p e r j) + halfModulus p * at m j)
-    unfolding opened
-    opened-noisy = cancelled (p .q) _ _ _ (omega (arith, kept .prime .above)) second
+    pub opened-noisy : Mod (p .q) (opened p (firstPart p a r) (secondPart p (key p a s e) r m) s j)
+        (residue (p .q) (numbersNoise p e r j) + halfModulus p * at m j)
+    opened-noisy =
+        rw (opened-at p (firstPart p a r) (secondPart p (key p a s e) r m) s j (firstPart-length p a r) h)
+        (cancelled (p .q) _ _ _ (omega (arith, kept .prime .above)) second)

@@ -8,8 +8,7 @@ use native.Mathlib.Nat.{zero-add, mod-eq-of-lt}
 use native.Mathlib.Decide.{decLt}
 use native.Mathlib.Omega.{arith}
 use borrow.Author.Tests.{eq-eqb, eqb-true, lt-ltb, not-false}
-use lib.Dec.{ltb}
-use lib.IntN.{ℤ, pos, natAbs}
+use lib.IntN.{ℤ, pos}
 use lib.ListN.{length, getD}
 use Rattle.maths.specs.Vector.{at}
 use Rattle.maths.specs.Integer.{residue}
@@ -21,16 +20,17 @@ use Rattle.calls.specs.Checks.{allOf, refuseFirst, below}
 use Rattle.calls.proofs.Outcome.{refuse-accepted}
 use Rattle.calls.proofs.Checks.{refuseFirst-passes, refuseFirst-accepted, passing-all, allOf-each, each-allOf}
 use Rattle.sets.specs.declared.Parameters.{Parameters}
-use Rattle.sets.specs.Table.{setOf}
+use Rattle.sets.specs.Table.{setOf, IsSet, noSet}
 use Rattle.sets.specs.Derived.{halfModulus}
 use Rattle.sets.proofs.Rules.{rules, byteRules}
-use Rattle.middle.proofs.Laws.{Below, two-slices, accepted-one, accepted-two}
-use Rattle.numbers.specs.Scheme.{key, firstPart, secondPart, opened, reading}
+use Rattle.middle.specs.Operand.{Below}
+use Rattle.middle.proofs.Laws.{two-slices, accepted-one, accepted-two}
+use Rattle.numbers.specs.Scheme.{opened, reading}
 use Rattle.numbers.specs.Calls.{isError, isMultiplier, keyShape, sealingShape, keyAnswer, sealingAnswer, readingAnswer}
 use Rattle.numbers.specs.Noise.{numbersNoise}
-use Rattle.numbers.proofs.Laws.{bitRead-bench, bitRead-centred, key-length, key-below, key-numbers, firstPart-length, firstPart-below, secondPart-length}
+use Rattle.numbers.proofs.Laws.{roundedBit-bench, roundedBit-centred, key-length, key-below, key-numbers, firstPart-length, firstPart-below, secondPart-length}
 use Rattle.numbers.proofs.Laws.{secondPart-below, sealing-numbers, reading-length, reading-at, opened-below, three-slices, reading-numbers}
-use Rattle.claim.specs.Claim.{onNumbers, keyOf, firstOf, secondOf, noiseAt, bitSent, bitRead, Demand3}
+use Rattle.claim.specs.Claim.{onNumbers, keyOf, firstOf, secondOf, Demand3}
 use Rattle.claim.proofs.Noisy.{opened-noisy}
 
 -- a check that every entry passes gives what comes after
@@ -46,17 +46,17 @@ passes-below limit offset xs after each = passes (below limit) offset xs 0 after
 -- numbers of the set's lengths and in range
 pub record Inputs (p : Parameters) (a s : List ℕ) (e r : List ℤ) (m : List ℕ) : Type 0 where
   pub public-length : length a ≡ p .t * p .n
-  pub public : (i : ℕ) → i < length a → at a i < p .q
+  pub public : Below (p .q) a
   pub secret-length : length s ≡ p .n + p .d + p .k - 1
-  pub secret : (i : ℕ) → i < length s → at s i < p .q
+  pub secret : Below (p .q) s
   pub errors-length : length e ≡ p .t * (p .d + p .k)
   pub errors : (i : ℕ) → i < length e → isError (p .eta) i (getD e i (pos 0)) ≡ true
   pub multipliers-length : length r ≡ p .t * (p .k + 1)
   pub multipliers : (i : ℕ) → i < length r → isMultiplier p i (getD r i (pos 0)) ≡ true
   pub message-length : length m ≡ p .d
-  pub message : (i : ℕ) → i < length m → at m i < 2
+  pub message : Below 2 m
 
-module _ (set : ℕ) (within : set < 13) (a s : List ℕ) (e r : List ℤ) (m : List ℕ) where
+module _ (set : ℕ) (within : IsSet set) (a s : List ℕ) (e r : List ℤ) (m : List ℕ) where
   -- q is not 0
   some : 0 < setOf set .q
   some = omega (arith, rules set within .prime .above)
@@ -67,7 +67,13 @@ module _ (set : ℕ) (within : set < 13) (a s : List ℕ) (e r : List ℤ) (m : 
       let p = setOf set in
       let bound = p .t * (p .d + p .k) in
       key-numbers set p a s e bound refl (omega arith)
-      (each-allOf _ (eq-eqb _ _ (given .public-length), (eq-eqb _ _ (given .secret-length), (eq-eqb _ _ (given .errors-length), (eq-eqb bound bound refl, tt)))))
+      (each-allOf _ (
+        eq-eqb _ _ (given .public-length),
+        (
+          eq-eqb _ _ (given .secret-length),
+          (eq-eqb _ _ (given .errors-length), (eq-eqb bound bound refl, tt)),
+        ),
+      ))
       ∙ two-slices (p .q) a s _ ∙ passes-below (p .q) 0 a _ (given .public) ∙ passes-below (p .q) (length a) s _ (given .secret)
       ∙ passes (isError (p .eta)) (length a + length s) e (pos 0) _ (given .errors)
 
@@ -89,24 +95,28 @@ module _ (set : ℕ) (within : set < 13) (a s : List ℕ) (e r : List ℤ) (m : 
       ∙ two-slices (p .q) a b _ ∙ passes-below (p .q) 0 a _ (given .public) ∙ passes-below (p .q) (length a) b _ (key-below p a s e some)
       ∙ passes (isMultiplier p) (length a + length b) r (pos 0) _ (given .multipliers) ∙ passes-below 2 (length a + length b + length r) m _ (given .message)
 
-  -- what an accepted key tells of the secret
-  key-told : (n : ℕ) → keyAnswer set a s e n ≡ accepted → (length s ≡ setOf set .n + setOf set .d + setOf set .k - 1) × Below (setOf set .q) s
+  -- what an accepted key tells of a and of the secret
+  key-told : (n : ℕ) → keyAnswer set a s e n ≡ accepted
+      → (length a ≡ setOf set .t * setOf set .n) × (length s ≡ setOf set .n + setOf set .d + setOf set .k - 1) × Below (setOf set .q) s
   unfolding keyAnswer
   key-told n taken =
-      let one = refuse-accepted (ltb 12 set) 1 0 _ taken in
+      let one = refuse-accepted (noSet set) 1 0 _ taken in
       let two = refuse-accepted (not (allOf (keyShape (setOf set) (length a) (length s) (length e) n))) 2 0 _ (one .1) in
-      (eqb-true _ _ (allOf-each _ (not-false _ (two .0)) .1 .0), accepted-two (setOf set .q) a s _ (two .1) .1)
+      let each = allOf-each _ (not-false _ (two .0)) in
+      (eqb-true _ _ (each .0), eqb-true _ _ (each .1 .0), accepted-two (setOf set .q) a s _ (two .1) .1)
 
-  -- what an accepted sealing tells of the message
-  sealing-told : (b : List ℕ) (c1 c2 : ℕ) → sealingAnswer set a b r m c1 c2 ≡ accepted → (length m ≡ setOf set .d) × Below 2 m
+  -- what an accepted sealing tells of the multipliers and the message
+  sealing-told : (b : List ℕ) (c1 c2 : ℕ) → sealingAnswer set a b r m c1 c2 ≡ accepted
+      → (length r ≡ setOf set .t * (setOf set .k + 1)) × (length m ≡ setOf set .d) × Below 2 m
   unfolding sealingAnswer
   sealing-told b c1 c2 taken =
-      let one = refuse-accepted (ltb 12 set) 1 0 _ taken in
+      let one = refuse-accepted (noSet set) 1 0 _ taken in
       let two = refuse-accepted (not (allOf (sealingShape (setOf set) (length a) (length b) (length r) (length m) c1 c2))) 2 0 _ (one .1) in
       let three = accepted-two (setOf set .q) a b _ (two .1) in
       let four = refuseFirst-accepted (isMultiplier (setOf set)) 0 (length a + length b) r _ (three .2) in
       let five = accepted-one 2 (length a + length b + length r) m _ (four .1) in
-      (eqb-true _ _ (allOf-each _ (not-false _ (two .0)) .1 .1 .1 .0), five .0)
+      let each = allOf-each _ (not-false _ (two .0)) in
+      (eqb-true _ _ (each .1 .1 .0), eqb-true _ _ (each .1 .1 .1 .0), five .0)
 
   module _ (keyed : keyAnswer set a s e (setOf set .t * (setOf set .d + setOf set .k)) ≡ accepted)
       (sealed : sealingAnswer set a (keyOf set a s e) r m (setOf set .n + setOf set .k) (setOf set .d) ≡ accepted)
@@ -120,9 +130,12 @@ module _ (set : ℕ) (within : set < 13) (a s : List ℕ) (e r : List ℤ) (m : 
           let c2 = secondOf set a s e r m in
           let told = key-told _ keyed in
           reading-numbers set p c1 c2 s (p .d) refl (omega arith)
-          (each-allOf _ (eq-eqb _ _ (firstPart-length p a r), (eq-eqb _ _ (secondPart-length p b r m), (eq-eqb _ _ (told .0), (eq-eqb (p .d) (p .d) refl, tt)))))
+          (each-allOf _ (
+            eq-eqb _ _ (firstPart-length p a r),
+            (eq-eqb _ _ (secondPart-length p b r m), (eq-eqb _ _ (told .1), (eq-eqb (p .d) (p .d) refl, tt))),
+          ))
           ∙ three-slices (p .q) c1 c2 s _ ∙ two-slices (p .q) c1 c2 _ ∙ passes-below (p .q) 0 c1 _ (firstPart-below p a r some)
-          ∙ passes-below (p .q) (length c1) c2 _ (secondPart-below p b r m some) ∙ passes-below (p .q) (length c1 + length c2) s _ (told .1)
+          ∙ passes-below (p .q) (length c1) c2 _ (secondPart-below p b r m some) ∙ passes-below (p .q) (length c1 + length c2) s _ (told .2)
 
       -- each bit is read by its noise
       each-bit : (j : ℕ) → j < setOf set .d
@@ -135,13 +148,14 @@ module _ (set : ℕ) (within : set < 13) (a s : List ℕ) (e r : List ℤ) (m : 
           let w = opened p (firstOf set a r) (secondOf set a s e r m) s j in
           let odd = rules set within .odd in
           let told = sealing-told _ _ _ sealed in
-          let bit : at m j ≤ 1 = omega (arith, told .0, told .1 j (omega (arith, told .0))) in
+          let bit : at m j ≤ 1 = omega (arith, told .1, told .2 j (omega (arith, told .1))) in
           let exact : w ≡ (residue (p .q) N + half * at m j) % p .q =
-          sym (mod-eq-of-lt (opened-below p (firstOf set a r) (secondOf set a s e r m) s j some)) ∙ opened-noisy p (rules set within) a s e r m j h .same in
+          sym (mod-eq-of-lt (opened-below p (firstOf set a r) (secondOf set a s e r m) s j some))
+          ∙ opened-noisy p (rules set within) a s e (key-told _ keyed .0) r m (told .0) j h .same in
           rw (reading-at set p (firstOf set a r) (secondOf set a s e r m) s j h) (elim (decLt 0 set) [
-            | yes above ↦ rw (bitRead-centred set p w (λ z. omega arith))
+            | yes above ↦ rw (roundedBit-centred set p w (λ z. omega arith))
                 (centredBit-claim half (p .q) (at m j) w N odd bit exact (half / 2) (byteRules set above within .even-half))
-            | no zero ↦ rw (bitRead-bench set p w (omega arith)) (floorBit-claim half (p .q) (at m j) w N odd bit exact)
+            | no zero ↦ rw (roundedBit-bench set p w (omega arith)) (floorBit-claim half (p .q) (at m j) w N odd bit exact)
           ])
 
       -- demand 3
@@ -154,5 +168,5 @@ module _ (set : ℕ) (within : set < 13) (a s : List ℕ) (e r : List ℤ) (m : 
             bits = each-bit;
             whole = λ small.
                 equal-by-place (setOf set .d) _ _ (reading-length set (setOf set) (firstOf set a r) (secondOf set a s e r m) s)
-                (sealing-told _ _ _ sealed .0) (λ j h. each-bit j h .reads (small j h));
+                (sealing-told _ _ _ sealed .1) (λ j h. each-bit j h .reads (small j h));
           }

@@ -5,9 +5,8 @@ use mathlib.Core.Bool.{Bool, true, false, cond}
 use Prim.Native.Nat.{ℕ, zero, suc, _+_, _-_, _*_, _/_, _%_, _^_, _≤_, _<_}
 use native.Mathlib.Nat.{one-mul, mod-lt, mod-eq-of-lt}
 use native.Mathlib.Omega.{arith}
-use borrow.Author.Tests.{eq-eqb, ne-eqb}
 use lib.Dec.{eqb}
-use lib.IntN.{ℤ, pos, negsuc, negℤ, natAbs, _-ℤ_, +ℤ-idl}
+use lib.IntN.{ℤ, pos, negsuc, negℤ, natAbs, _-ℤ_}
 use lib.Bits.{bitAnd, and-mask, block-odd, block-half}
 use lib.Count as Count
 use lib.Count.{ones-step}
@@ -77,14 +76,21 @@ module _ (byte : ℕ) (small : byte < 256) where
   unfolding errorOf
   error-is =
       toZ-ofZ (difference-fits _ _ low-most high-most)
-      ∙ rw (low-count, high-count, toZ-pos w32 {n = ones 4 byte} (omega (arith, ones-most byte)), toZ-pos w32 {n = ones 4 (byte / 16)} (omega (arith, ones-most (byte / 16))))
+      ∙ rw (
+        low-count,
+        high-count,
+        toZ-pos w32 {n = ones 4 byte} (omega (arith, ones-most byte)),
+        toZ-pos w32 {n = ones 4 (byte / 16)}
+            (omega (arith, ones-most (byte / 16))),
+      )
 
 -- an error is at most 4 in size
 pub error-most : (byte : ℕ) → natAbs (errorOf byte) ≤ 4
 unfolding errorOf
 error-most byte = go (pos (ones 4 byte) -ℤ pos (ones 4 (byte / 16))) (+ℤ-parts (pos (ones 4 byte)) (negℤ (pos (ones 4 (byte / 16)))))
   where
-    go : (z : ℤ) → positivePart z + 0 + negativePart (negℤ (pos (ones 4 (byte / 16)))) ≡ ones 4 byte + positivePart (negℤ (pos (ones 4 (byte / 16)))) + negativePart z → natAbs z ≤ 4
+    go : (z : ℤ) → positivePart z + 0 + negativePart (negℤ (pos (ones 4 (byte / 16)))) ≡ ones 4 byte + positivePart
+        (negℤ (pos (ones 4 (byte / 16)))) + negativePart z → natAbs z ≤ 4
     go (pos n) e = omega (arith, ones-most byte, negℤ-parts (pos (ones 4 (byte / 16))))
     go (negsuc n) e = omega (arith, ones-most (byte / 16), negℤ-parts (pos (ones 4 (byte / 16))))
 

@@ -1,13 +1,12 @@
 -- Laws of candidates: the first at a byte position, their count, and the candidates of bytes in two parts.
 -- Assumes nothing.
-use mathlib.Core.Path.{_≡_, refl, sym, ap, _∙_}
-use mathlib.Core.List.{List, [], _∷_, _++_}
+use mathlib.Core.Path.{_≡_, refl, ap, _∙_}
+use mathlib.Core.List.{List, [], _∷_}
 use Prim.Native.Nat.{ℕ, zero, suc, _+_, _*_, _/_, _≤_, _<_}
-use native.Mathlib.Nat.{add-zero}
 use native.Mathlib.Numerals.{add-one}
 use native.Mathlib.Omega.{arith}
 use lib.ListN.{length, getD, drop, length-drop}
-use lib.Seq.{drop-cons, drop-drop, drop-nil, getD-drop}
+use lib.Seq.{drop-cons, drop-drop, drop-nil}
 use Rattle.calls.specs.Region.{region}
 use Rattle.maths.specs.Bytes.{littleEndian}
 use Rattle.draws.specs.Uniform.{candidates}
@@ -73,7 +72,8 @@ module _ (bytes : List ℕ) (position : ℕ) where
   candidates-none h = few-none (drop position bytes) (rw length-drop (omega arith))
 
   -- else the first candidate is the number of the next three bytes
-  pub candidates-first : position + 3 ≤ length bytes → candidates (drop position bytes) ≡ littleEndian (region bytes position 3) ∷ candidates (drop (position + 3) bytes)
+  pub candidates-first : position + 3 ≤ length bytes → candidates (drop position bytes) ≡ littleEndian (region bytes position 3) ∷ candidates
+      (drop (position + 3) bytes)
   unfolding region
   candidates-first h = some-first (drop position bytes) (rw length-drop (omega arith)) ∙ rw (drop-drop 3 position bytes)
 
@@ -84,15 +84,6 @@ candidates-length [] = refl
 candidates-length (a ∷ []) = refl
 candidates-length (a ∷ b ∷ []) = refl
 candidates-length (a ∷ b ∷ c ∷ bytes) = omega (arith, candidates-length bytes)
-
--- the candidates of bytes in two parts, of which the first holds whole candidates
-pub candidates-append : (n : ℕ) (xs ys : List ℕ) → length xs ≡ 3 * n → candidates (xs ++ ys) ≡ candidates xs ++ candidates ys
-unfolding candidates
-candidates-append n [] ys e = refl
-candidates-append n (a ∷ []) ys e = absurd (omega arith)
-candidates-append n (a ∷ b ∷ []) ys e = absurd (omega arith)
-candidates-append zero (a ∷ b ∷ c ∷ xs) ys e = absurd (omega arith)
-candidates-append (suc n) (a ∷ b ∷ c ∷ xs) ys e = ap (λ (cs : List ℕ). littleEndian (a ∷ b ∷ c ∷ []) ∷ cs) (candidates-append n xs ys (omega arith))
 
 -- the candidates after the first and k more
 after-first : (k : ℕ) (bytes : List ℕ) → drop k (candidates (drop 3 bytes)) ≡ drop (suc k) (candidates bytes)

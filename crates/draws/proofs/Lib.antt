@@ -4,5 +4,4 @@ pub mod Sampling
 pub mod Results
 pub mod Bits
 pub mod Positions
-pub mod Answers
 pub mod Laws

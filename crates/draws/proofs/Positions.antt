@@ -54,27 +54,36 @@ pub lent-true : (p : Parameters) (bytes : List ℕ) (position : ℕ) → lent p 
 unfolding lent
 lent-true p bytes position e = go (leb (position * multiplierBytes p + multiplierBytes p) (length bytes)) refl e
   where
-    go : (t : Bool) → leb (position * multiplierBytes p + multiplierBytes p) (length bytes) ≡ t → t && ltb (signsAt p + position / 8) (length bytes) ≡ true → Lent p bytes position
+    go : (t : Bool) → leb (position * multiplierBytes p + multiplierBytes p) (length bytes) ≡ t → t && ltb (signsAt p + position / 8) (length bytes) ≡ true
+        → Lent p bytes position
     go true sizes sign = record { sizes = leb-true _ _ sizes; sign = ltb-true _ _ sign }
     go false sizes sign = let z : _≡_ {A = ℕ} 0 1 = cc in absurd (omega arith)
 
 -- the bytes of one whole sealing hold those of each position
-pub lent-whole : (p : Parameters) (bytes : List ℕ) (position : ℕ) → ByteRules p → position < multiplierCount p → multiplierDrawBytes p ≤ length bytes → lent p bytes position ≡ true
+pub lent-whole : (p : Parameters) (bytes : List ℕ) (position : ℕ) → ByteRules p → position < multiplierCount p → multiplierDrawBytes p ≤ length bytes
+    → lent p bytes position ≡ true
 unfolding lent signsAt multiplierDrawBytes
 lent-whole p bytes position rules h enough =
     let eights : multiplierCount p ≡ 8 * (p .t * ((p .k + 1) / 8)) = unfold multiplierCount in omega (arith, ap (λ (m : ℕ). p .t * m) (rules .signs)) in
-    let sizes : position * multiplierBytes p + multiplierBytes p ≤ multiplierCount p * multiplierBytes p = omega (arith, mul-le-mul-right (multiplierBytes p) h) in
-    rw (le-leb (position * multiplierBytes p + multiplierBytes p) (length bytes) (omega arith), lt-ltb (multiplierCount p * multiplierBytes p + position / 8) (length bytes) (omega arith))
+    let sizes : position * multiplierBytes p + multiplierBytes p ≤ multiplierCount p * multiplierBytes p = omega
+    (arith, mul-le-mul-right (multiplierBytes p) h) in
+    rw (
+      le-leb (position * multiplierBytes p + multiplierBytes p) (length bytes) (omega arith),
+      lt-ltb (multiplierCount p * multiplierBytes p + position / 8)
+          (length bytes) (omega arith),
+    )
 
 -- the results whose bytes are lent, counted as entries that pass a test
-lent-passing : (p : Parameters) (bytes : List ℕ) (first n : ℕ) → lentResults p bytes first n ≡ passing {A = ℕ} (λ position x. lent p bytes position) first (replicate n 0)
+lent-passing : (p : Parameters) (bytes : List ℕ) (first n : ℕ)
+    → lentResults p bytes first n ≡ passing {A = ℕ} (λ position x. lent p bytes position) first (replicate n 0)
 unfolding lentResults passing
 lent-passing p bytes first zero = refl
 lent-passing p bytes first (suc n) = ap (further (lent p bytes first)) (lent-passing p bytes (suc first) n)
 
 -- each result before the first that fails has its bytes
 pub lent-before : (p : Parameters) (bytes : List ℕ) (first n k : ℕ) → k < lentResults p bytes first n → lent p bytes (first + k) ≡ true
-lent-before p bytes first n k h = passing-before {A = ℕ} (λ position x. lent p bytes position) first (replicate n 0) 0 k (rw (lent-passing p bytes first n) at h)
+lent-before p bytes first n k h = passing-before {A = ℕ} (λ position x. lent p bytes position) first (replicate n 0) 0 k
+    (rw (lent-passing p bytes first n) at h)
 
 -- the first i results have their bytes
 pub record LentUpTo (p : Parameters) (bytes : List ℕ) (first n i : ℕ) : Type 0 where
@@ -127,5 +136,6 @@ pub turned-none : (f : ℕ → ℤ) (first : ℕ) (old : List ℤ) → Turned f 
 turned-none f first old = filled-none (turn-length f first (length old)) (omega arith)
 
 -- one number more
-pub turned-more : (f : ℕ → ℤ) (first : ℕ) {old : List ℤ} {i : ℕ} {new : List ℤ} {x : ℤ} → Turned f first old i new → i < length old → x ≡ f (first + i) → Turned f first old (i + 1) (set new i x)
+pub turned-more : (f : ℕ → ℤ) (first : ℕ) {old : List ℤ} {i : ℕ} {new : List ℤ} {x : ℤ} → Turned f first old i new → i < length old → x ≡ f (first + i)
+    → Turned f first old (i + 1) (set new i x)
 turned-more f first {old} {i} t h e = filled-more (pos 0) t h (omega arith) (e ∙ sym (turn-at f first (length old) i (pos 0) h))

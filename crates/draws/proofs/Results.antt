@@ -41,7 +41,8 @@ stop-answer place n run drawn (inr s) = rw (s .1, s .0, add-zero)
 
 module _ (q threshold wanted : ℕ) where
   -- a draw of one result that gives a number gives it first in a draw of more
-  first-number : (run position : ℕ) (cs : List ℕ) (x next : ℕ) → sampleFrom q threshold run position cs ≡ number x next → First q threshold wanted run position cs x next
+  first-number : (run position : ℕ) (cs : List ℕ) (x next : ℕ) → sampleFrom q threshold run position cs ≡ number x next
+      → First q threshold wanted run position cs x next
   first-number run position [] x next e = absurd (number-refusal e (sample-end q threshold run position))
   first-number run position (c ∷ cs) x next e =
       by-verdict (verdict threshold run c)
@@ -113,7 +114,8 @@ answer-put place x (exhausted i) = ap (refused 5) (omega arith)
 -- after i results: the answer is that of the other results, from a position on
 pub record Looking (bytes : List ℕ) (q threshold wanted position i : ℕ) : Type 0 where
   pub within : i ≤ wanted
-  pub same : drawnAnswer 0 (accept q threshold wanted 0 (candidates bytes)) ≡ drawnAnswer i (accept q threshold (wanted - i) 0 (candidates (drop position bytes)))
+  pub same : drawnAnswer 0 (accept q threshold wanted 0 (candidates bytes)) ≡ drawnAnswer i
+      (accept q threshold (wanted - i) 0 (candidates (drop position bytes)))
 
 -- before the first result
 pub looking-none : (bytes : List ℕ) (q threshold wanted : ℕ) → Looking bytes q threshold wanted 0 0
@@ -164,7 +166,8 @@ pub record Filling (bytes : List ℕ) (q threshold : ℕ) (old : List ℕ) (posi
   pub rest : accept q threshold (length old - i) 0 (candidates (drop position bytes)) ≡ taken (drop i (residuesOf bytes q threshold (length old)))
 
 -- before the first result
-pub filling-none : (bytes : List ℕ) (q threshold : ℕ) (old : List ℕ) → drawnAnswer 0 (accept q threshold (length old) 0 (candidates bytes)) ≡ accepted → Filling bytes q threshold old 0 0 old
+pub filling-none : (bytes : List ℕ) (q threshold : ℕ) (old : List ℕ) → drawnAnswer 0 (accept q threshold (length old) 0 (candidates bytes)) ≡ accepted
+    → Filling bytes q threshold old 0 0 old
 filling-none bytes q threshold old e =
     let whole = answer-taken 0 (accept q threshold (length old) 0 (candidates bytes)) e in
     record {
@@ -172,7 +175,8 @@ filling-none bytes q threshold old e =
       rest = rw sub-zero whole;
     }
 
-module _ {bytes : List ℕ} {q threshold : ℕ} {old : List ℕ} {position i : ℕ} {new : List ℕ} (f : Filling bytes q threshold old position i new) (h : i < length old) where
+module _ {bytes : List ℕ} {q threshold : ℕ} {old : List ℕ} {position i : ℕ} {new : List ℕ} (f : Filling bytes q threshold old position i new)
+    (h : i < length old) where
   -- a result is drawn and written
   pub filling-more : (x next : ℕ) → sampleAt q threshold 0 bytes position ≡ number x next → Filling bytes q threshold old next (i + 1) (set new i x)
   filling-more x next e =

@@ -8,31 +8,39 @@ use native.Mathlib.Omega.{arith}
 use lib.ListN.{length, drop}
 use Rattle.calls.specs.Region.{region}
 use Rattle.maths.specs.Bytes.{littleEndian}
-use Rattle.draws.specs.Uniform.{candidates, take, aside, last, verdict, number, refusal, sampleFrom, sampleAt}
+use Rattle.draws.specs.Uniform.{candidates, within, aside, last, verdict, Found, found, short, spent, later, find}
+use Rattle.draws.specs.Uniform.{number, refusal, sampleOf, sampleFrom, sampleAt}
 use Rattle.draws.proofs.Candidates.{candidates-none, candidates-first}
-use Rattle.draws.proofs.Accept.{verdict-take, verdict-aside, verdict-last}
+use Rattle.draws.proofs.Accept.{verdict-take, verdict-aside, verdict-last, find-within, find-aside, find-last}
+
+-- one candidate more looked at is three bytes more
+sample-later : (q position : ℕ) (f : Found) → sampleOf q position (later f) ≡ sampleOf q (position + 3) f
+unfolding sampleOf later
+sample-later q position (found c looked cs) = ap (number (c % q)) (omega arith)
+sample-later q position (short run) = refl
+sample-later q position spent = refl
 
 module _ (q threshold run position : ℕ) where
   -- no candidate
   pub sample-end : sampleFrom q threshold run position [] ≡ refusal 4
-  unfolding sampleFrom
+  unfolding find sampleOf sampleFrom
   sample-end = refl
 
   module _ (c : ℕ) (cs : List ℕ) where
     -- the first candidate is taken
-    pub sample-take : verdict threshold run c ≡ take → sampleFrom q threshold run position (c ∷ cs) ≡ number (c % q) (position + 3)
-    unfolding sampleFrom
-    sample-take e = rw (e, sampleFrom)
+    pub sample-take : verdict threshold run c ≡ within → sampleFrom q threshold run position (c ∷ cs) ≡ number (c % q) (position + 3)
+    unfolding sampleOf sampleFrom
+    sample-take e = ap (sampleOf q position) (find-within threshold run c cs e)
 
     -- the first candidate is set aside
     pub sample-aside : verdict threshold run c ≡ aside → sampleFrom q threshold run position (c ∷ cs) ≡ sampleFrom q threshold (suc run) (position + 3) cs
     unfolding sampleFrom
-    sample-aside e = rw (e, sampleFrom)
+    sample-aside e = ap (sampleOf q position) (find-aside threshold run c cs e) ∙ sample-later q position (find threshold (suc run) cs)
 
     -- the first candidate is the last that may be set aside
     pub sample-last : verdict threshold run c ≡ last → sampleFrom q threshold run position (c ∷ cs) ≡ refusal 5
-    unfolding sampleFrom
-    sample-last e = rw (e, sampleFrom)
+    unfolding sampleOf sampleFrom
+    sample-last e = ap (sampleOf q position) (find-last threshold run c cs e)
 
 -- the draw at a position is the draw at a later one, with some candidates set aside between them
 pub record Sampling (bytes : List ℕ) (at q threshold before position run : ℕ) : Type 0 where

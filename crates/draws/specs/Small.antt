@@ -45,7 +45,8 @@ signBit bytes signs position = getD bytes (signs + position / 8) 0 / 2 ^ (positi
 -- the multiplier at a position, from the bytes of one whole sealing
 unfoldable pub multiplierAt : Parameters → List ℕ → ℕ → ℤ
 multiplierAt p bytes position =
-    multiplierOf (multiplierBits p position) (littleEndian (region bytes (position * multiplierBytes p) (multiplierBytes p))) (signBit bytes (signsAt p) position)
+    multiplierOf (multiplierBits p position) (littleEndian (region bytes (position * multiplierBytes p) (multiplierBytes p)))
+    (signBit bytes (signsAt p) position)
 
 -- 0b0111_0001: one 1 in the low half, three in the high half
 errorOf-example : errorOf 0b0111_0001 ≡ negsuc 1

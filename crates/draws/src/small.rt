@@ -112,7 +112,8 @@ pub fn lent_results(p: Parameters, bytes: &[u8], first: usize, wanted: usize) ->
 
 // Draws the multipliers from the first position on, whose bytes are all lent.
 pub fn fill_multipliers(p: Parameters, bytes: &[u8], first: usize, out: &mut [i32])
-    requires { ⌜ Rules p × ByteRules p × (first + length (now out) ≤ multiplierCount p) × (length (now out) ≤ lentResults p (now bytes) first (length (now out))) ⌝ }
+    requires { ⌜ Rules p × ByteRules p × (first + length (now out) ≤ multiplierCount p)
+        × (length (now out) ≤ lentResults p (now bytes) first (length (now out))) ⌝ }
     ensures { λ _. ⌜ now (out .exit) ≡ inTurn (multiplierAt p (now (bytes .entry))) first (length (now (out .entry))) ⌝ }
 {
     let mut i: usize = 0;

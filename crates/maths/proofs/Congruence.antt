@@ -3,7 +3,8 @@
 use mathlib.Core.Path.{_≡_, refl, sym, ap, _∙_}
 use mathlib.Core.Logic.{_≢_}
 use Prim.Native.Nat.{ℕ, zero, suc, _+_, _*_, _/_, _%_, _^_, _<_}
-use native.Mathlib.Nat.{mod-mod, mod-zero, zero-mod, mod-add-div', add-mod, add-mul-mod-self-right, mul-mod-left, pow-zero, pow-suc, mul-comm, one-mul, add-right-cancel}
+use native.Mathlib.Nat.{mod-mod, mod-zero, zero-mod, mod-add-div', add-mod, add-mul-mod-self-right, mul-mod-left, pow-zero, pow-suc, mul-comm, one-mul}
+use native.Mathlib.Nat.{add-right-cancel}
 use native.Mathlib.Omega.{arith}
 use Rattle.maths.specs.Sum.{sum}
 use Rattle.maths.specs.Congruence.{Mod}

@@ -33,15 +33,18 @@ transform-shift D n w u c i =
     simp (← sum-mul-right, ← sum-mul-left, term) (sum-swap D n _)
 
 -- the correlation of u with b from the transforms of u with w and of b with the inverse of w
-pub correlation-by-transforms : {q D w v e : ℕ} → Root q D w v e → (n : ℕ) (u b : ℕ → ℕ) (i : ℕ) → i + n ≤ D → Mod q (e * transformAt D w (λ m. transformAt n w u m * transformAt D v b m) i) (correlation n u b i)
+pub correlation-by-transforms : {q D w v e : ℕ} → Root q D w v e → (n : ℕ) (u b : ℕ → ℕ) (i : ℕ) → i + n ≤ D
+    → Mod q (e * transformAt D w (λ m. transformAt n w u m * transformAt D v b m) i) (correlation n u b i)
 unfolding correlation
 correlation-by-transforms {q} {D} {w} {v} {e} r n u b i fits =
     let back : ℕ → ℕ = λ j. transformAt D w (transformAt D v b) (i + j) in
-    let term : (j : ℕ) → j < n → Mod q (e * (u j * back j)) (u j * b (i + j)) = λ j h. rw mul-left-comm (mod-mul (mod-refl (u j)) (inversion (root-inverse r) b (i + j) (omega arith))) in
+    let term : (j : ℕ) → j < n → Mod q (e * (u j * back j)) (u j * b (i + j)) =
+    λ j h. rw mul-left-comm (mod-mul (mod-refl (u j)) (inversion (root-inverse r) b (i + j) (omega arith))) in
     rw (transform-shift D n w u (transformAt D v b) i, ← sum-mul-left) (mod-sum n (λ j. e * (u j * back j)) (λ j. u j * b (i + j)) term)
 
 -- place j of a factor of m places times the part of the other factor that meets it: all n places of that, or else place j is zero
-product-row : (D m n : ℕ) (f g : ℕ → ℕ) → m + n ≤ D + 1 → ((j : ℕ) → m ≤ j → f j ≡ 0) → ((j : ℕ) → n ≤ j → g j ≡ 0) → (j : ℕ) → j < D → f j * sum (D - j) g ≡ f j * sum D g
+product-row : (D m n : ℕ) (f g : ℕ → ℕ) → m + n ≤ D + 1 → ((j : ℕ) → m ≤ j → f j ≡ 0) → ((j : ℕ) → n ≤ j → g j ≡ 0) → (j : ℕ) → j < D
+    → f j * sum (D - j) g ≡ f j * sum D g
 product-row D m n f g fits f-end g-end j h =
     elim (decLe m j) [
       | yes past ↦ simp (f-end j past, zero-mul)
@@ -49,15 +52,22 @@ product-row D m n f g fits f-end g-end j h =
     ]
 
 -- the coefficients of a product add up to the product of the sums, where the factors have m and n places and the product fits into D
-pub sum-product : (D m n : ℕ) (f g : ℕ → ℕ) → m + n ≤ D + 1 → ((j : ℕ) → m ≤ j → f j ≡ 0) → ((j : ℕ) → n ≤ j → g j ≡ 0) → sum D (λ p. sum (suc p) (λ j. f j * g (p - j))) ≡ sum D f * sum D g
-sum-product D m n f g fits f-end g-end = rw (sum-triangle D (λ j k. f j * g k), ← sum-mul-right) (simp sum-mul-left (sum-cong D _ _ (product-row D m n f g fits f-end g-end)))
+pub sum-product : (D m n : ℕ) (f g : ℕ → ℕ) → m + n ≤ D + 1 → ((j : ℕ) → m ≤ j → f j ≡ 0) → ((j : ℕ) → n ≤ j → g j ≡ 0)
+    → sum D (λ p. sum (suc p) (λ j. f j * g (p - j))) ≡ sum D f * sum D g
+sum-product D m n f g fits f-end g-end =
+    rw (sum-triangle D (λ j k. f j * g k), ← sum-mul-right) (simp sum-mul-left (sum-cong D _ _ (product-row D m n f g fits f-end g-end)))
 
 -- the transform of the product of two polynomials is the product of their transforms, place by place
-pub transform-product : (D w m n : ℕ) (u a : ℕ → ℕ) (i : ℕ) → m + n ≤ D + 1 → ((j : ℕ) → m ≤ j → u j ≡ 0) → ((j : ℕ) → n ≤ j → a j ≡ 0) → transformAt D w (λ p. sum (suc p) (λ j. u j * a (p - j))) i ≡ transformAt D w u i * transformAt D w a i
+pub transform-product : (D w m n : ℕ) (u a : ℕ → ℕ) (i : ℕ) → m + n ≤ D + 1 → ((j : ℕ) → m ≤ j → u j ≡ 0) → ((j : ℕ) → n ≤ j → a j ≡ 0)
+    → transformAt D w (λ p. sum (suc p) (λ j. u j * a (p - j))) i ≡ transformAt D w u i * transformAt D w a i
 unfolding transformAt
 transform-product D w m n u a i fits u-end a-end =
     let f : ℕ → ℕ = λ j. u j * w ^ (i * j) in
     let g : ℕ → ℕ = λ j. a j * w ^ (i * j) in
-    let term : (p j : ℕ) → j < suc p → u j * a (p - j) * w ^ (i * p) ≡ f j * g (p - j) = λ p j h. let e : i * p ≡ i * j + i * (p - j) = sym (ap (λ (x : ℕ). i * x) (add-sub-of-le (le-of-suc-le-suc h))) ∙ mul-add i j (p - j) in rw (e, pow-add) (omega arith) in
-    let place : (p : ℕ) → p < D → sum (suc p) (λ j. u j * a (p - j)) * w ^ (i * p) ≡ sum (suc p) (λ j. f j * g (p - j)) = λ p h. sym (sum-mul-right (suc p) (w ^ (i * p)) (λ j. u j * a (p - j))) ∙ sum-cong (suc p) _ (λ j. f j * g (p - j)) (term p) in
-    sum-cong D _ (λ p. sum (suc p) (λ j. f j * g (p - j))) place ∙ sum-product D m n f g fits (λ j h. rw (u-end j h, zero-mul)) (λ j h. rw (a-end j h, zero-mul))
+    let term : (p j : ℕ) → j < suc p → u j * a (p - j) * w ^ (i * p) ≡ f j * g (p - j) =
+    λ p j h. let e : i * p ≡ i * j + i * (p - j) = sym (ap (λ (x : ℕ). i * x) (add-sub-of-le (le-of-suc-le-suc h)))
+    ∙ mul-add i j (p - j) in rw (e, pow-add) (omega arith) in
+    let place : (p : ℕ) → p < D → sum (suc p) (λ j. u j * a (p - j)) * w ^ (i * p) ≡ sum (suc p) (λ j. f j * g (p - j)) =
+    λ p h. sym (sum-mul-right (suc p) (w ^ (i * p)) (λ j. u j * a (p - j))) ∙ sum-cong (suc p) _ (λ j. f j * g (p - j)) (term p) in
+    sum-cong D _ (λ p. sum (suc p) (λ j. f j * g (p - j))) place
+    ∙ sum-product D m n f g fits (λ j h. rw (u-end j h, zero-mul)) (λ j h. rw (a-end j h, zero-mul))

@@ -49,7 +49,9 @@ negℤ-parts (pos (suc n)) = (refl, refl)
 negℤ-parts (negsuc n) = (refl, refl)
 
 -- the parts of a product
-pub *ℤ-parts : (a b : ℤ) → positivePart (a *ℤ b) + positivePart a * negativePart b + negativePart a * positivePart b ≡ positivePart a * positivePart b + negativePart a * negativePart b + negativePart (a *ℤ b)
+pub *ℤ-parts : (a b : ℤ)
+    → positivePart (a *ℤ b) + positivePart a * negativePart b + negativePart a * positivePart b ≡ positivePart a * positivePart b + negativePart
+    a * negativePart b + negativePart (a *ℤ b)
 *ℤ-parts (pos m) (pos n) = omega arith
 *ℤ-parts (pos m) (negsuc n) = omega (arith, negℤ-parts (pos (m * suc n)))
 *ℤ-parts (negsuc m) (pos n) = omega (arith, negℤ-parts (pos (suc m * n)))
@@ -153,7 +155,8 @@ pub residue-negℤ : (q : ℕ) (a : ℤ) → 0 < q → residue q (negℤ a) ≡ 
 unfolding representative
 residue-negℤ zero a h = absurd (omega arith)
 residue-negℤ (suc p) a h = simp residue-representative
-    (same-remainder (suc p) (representative p (negℤ a)) (suc (representative p a / suc p)) (suc p - representative p a % suc p) (positivePart a + negativePart a)
+    (same-remainder (suc p) (representative p (negℤ a)) (suc (representative p a / suc p)) (suc p - representative p a % suc p)
+    (positivePart a + negativePart a)
     (omega (arith, mod-add-div (representative p a) (suc p), mod-lt (representative p a) h, negℤ-parts a, scaled p (negℤ-parts a .1))))
 
 -- a residue is its own remainder
@@ -209,4 +212,5 @@ natAbs-centre h w l = go (decLe w h)
 -- a number of size at most h is the centred residue of its residue
 pub centre-residue : (h q : ℕ) (z : ℤ) → q ≡ 2 * h + 1 → natAbs z ≤ h → centre h (residue q z) ≡ z
 centre-residue h q (pos n) e l = rw (residue-low q n (omega arith)) (centre-low h n l)
-centre-residue h q (negsuc n) e l = rw (residue-high q (suc n) (omega arith) (omega arith), centre-high h (q - suc n) (omega arith), ← e, sub-sub-self {a = suc n} {m = q} (omega arith))
+centre-residue h q (negsuc n) e l =
+    rw (residue-high q (suc n) (omega arith) (omega arith), centre-high h (q - suc n) (omega arith), ← e, sub-sub-self {a = suc n} {m = q} (omega arith))

@@ -4,7 +4,8 @@ use mathlib.Core.Path.{_≡_, ap, _∙_, sym}
 use mathlib.Core.Logic.{_≢_, _⊎_, inl, inr}
 use mathlib.Core.Bool.{not}
 use Prim.Native.Nat.{ℕ, zero, suc, _+_, _*_, _/_, _%_, _≤_, _<_}
-use native.Mathlib.Nat.{eq-or-lt-of-le, eq-zero-or-pos, le-refl, mod-lt, mul-le-mul, mul-comm, one-mul, pos-of-ne-zero, mod-add-div', zero-mod, mul-zero, mul-mod-left, mul-le-mul-left, lt-of-mul-lt-mul-right, lt-of-not-le}
+use native.Mathlib.Nat.{eq-or-lt-of-le, eq-zero-or-pos, le-refl, mod-lt, mul-le-mul, mul-comm, one-mul, pos-of-ne-zero, mod-add-div', zero-mod, mul-zero}
+use native.Mathlib.Nat.{mul-mod-left, mul-le-mul-left, lt-of-mul-lt-mul-right, lt-of-not-le}
 use native.Mathlib.Decide.{decLe}
 use native.Mathlib.Omega.{arith}
 use lib.Dec.{T, ltb, eqb, T-not, ltb→lt}
@@ -59,7 +60,8 @@ descend {q} p (suc n) a b fuel low high h =
           let c : ℕ = q / a * (a * b) in
           let whole : r * b + c ≡ b * q = omega (arith, ap (λ (x : ℕ). x * b) (mod-add-div' q a)) in
           let zero-c : Mod q c 0 = mod-trans (mod-mul (mod-refl (q / a)) h) (mod-eq (mul-zero (q / a))) in
-          descend p n r b (omega (arith, mod-lt q low)) (pos-of-ne-zero (p .no-divisor a more high)) (omega (arith, mod-lt q low)) (mod-add-cancel c (mod-trans (rw whole (mod-multiple q b)) (mod-sym (mod-add (mod-refl 0) zero-c))))
+          descend p n r b (omega (arith, mod-lt q low)) (pos-of-ne-zero (p .no-divisor a more high)) (omega (arith, mod-lt q low))
+          (mod-add-cancel c (mod-trans (rw whole (mod-multiple q b)) (mod-sym (mod-add (mod-refl 0) zero-c))))
     ]
 
 -- Euclid's lemma: a prime that divides a product divides a factor
@@ -74,7 +76,8 @@ euclid {q} p a b h =
 pub zero-or-cancel : {q a b : ℕ} → Prime q → (c : ℕ) → Mod q (c * a) (c * b) → Mod q c 0 ⊎ Mod q a b
 zero-or-cancel {q = zero} p c h = absurd (omega arith)
 zero-or-cancel {q = suc k} {a} {b} p c h =
-    let difference : Mod (suc k) (c * (a + k * b)) 0 = mod-trans (mod-eq (omega arith)) (mod-trans (mod-add h (mod-refl (k * (c * b)))) (mod-trans (mod-eq (omega arith)) (mod-multiple (suc k) (c * b)))) in
+    let difference : Mod (suc k) (c * (a + k * b)) 0 =
+    mod-trans (mod-eq (omega arith)) (mod-trans (mod-add h (mod-refl (k * (c * b)))) (mod-trans (mod-eq (omega arith)) (mod-multiple (suc k) (c * b)))) in
     elim (euclid p c (a + k * b) difference) [
       | inl none ↦ inl none
       | inr same ↦ inr (mod-add-cancel (k * b) (mod-trans same (mod-sym (mod-trans (mod-eq (omega arith)) (mod-multiple (suc k) b)))))

@@ -25,7 +25,8 @@ abbrev pub productAt : (ℕ → ℕ) → (ℕ → ℕ) → ℕ → ℕ
 productAt x y p = sum (suc p) (λ j. x j * y (p - j))
 
 -- congruent vectors have congruent correlations
-pub correlation-mod : {q : ℕ} (n : ℕ) (x u y z : ℕ → ℕ) (i : ℕ) → ((j : ℕ) → j < n → Mod q (x j) (u j)) → ((j : ℕ) → j < n → Mod q (y (i + j)) (z (i + j))) → Mod q (correlation n x y i) (correlation n u z i)
+pub correlation-mod : {q : ℕ} (n : ℕ) (x u y z : ℕ → ℕ) (i : ℕ) → ((j : ℕ) → j < n → Mod q (x j) (u j)) → ((j : ℕ) → j < n → Mod q (y (i + j)) (z (i + j)))
+    → Mod q (correlation n x y i) (correlation n u z i)
 unfolding correlation
 correlation-mod n x u y z i first second = mod-sum n _ _ (λ j h. mod-mul (first j h) (second j h))
 
@@ -50,7 +51,9 @@ product-places a b i some = sum-pad (length a) (suc (length a - 1 + i)) _ (omega
 -- such a place is a correlation with the numbers of a reversed
 pub product-correlation : (a b : List ℕ) (i : ℕ) → 0 < length a → product a b (length a - 1 + i) ≡ correlation (length a) (reversed a) (at b) i
 unfolding correlation
-product-correlation a b i some = product-places a b i some ∙ (sum-reverse (length a) _ ∙ sum-cong (length a) _ _ (λ j h. let place : length a - 1 + i - (length a - 1 - j) ≡ i + j = omega arith in rw place))
+product-correlation a b i some =
+    product-places a b i some
+    ∙ (sum-reverse (length a) _ ∙ sum-cong (length a) _ _ (λ j h. let place : length a - 1 + i - (length a - 1 - j) ≡ i + j = omega arith in rw place))
 
 -- the length of a middle product
 pub middleProduct-length : (q : ℕ) (a b : List ℕ) (d : ℕ) → length (middleProduct q a b d) ≡ d
@@ -63,7 +66,8 @@ unfolding middleProduct
 middleProduct-at q a b d i h = tabulate-at d _ i h
 
 -- the middle product is a correlation
-pub middle-correlation : (q : ℕ) (a b : List ℕ) (d : ℕ) → 0 < length a → middleProduct q a b d ≡ tabulate d (λ i. correlation (length a) (reversed a) (at b) i % q)
+pub middle-correlation : (q : ℕ) (a b : List ℕ) (d : ℕ) → 0 < length a
+    → middleProduct q a b d ≡ tabulate d (λ i. correlation (length a) (reversed a) (at b) i % q)
 unfolding middleProduct
 middle-correlation q a b d some = tabulate-cong d _ _ (λ i h. rw (product-correlation a b i some))
 
@@ -88,12 +92,15 @@ module _ (n m : ℕ) (x y z : ℕ → ℕ) (i : ℕ) (x-end : (j : ℕ) → n �
   -- the correlation with a correlation, where the product of x and y has room in D places
   correlation-room : (D : ℕ) → n + m ≤ D → correlation n x (correlation m y z) i ≡ correlation D (productAt x y) z i
   unfolding correlation
-  correlation-room D fits = sym (sum-cong D _ _ (λ p h. product-term x y z i p) ∙ sum-triangle D (λ j k. x j * (y k * z (i + j + k))) ∙ sum-cong D _ _ (correlation-row D fits) ∙ sum-pad n D _ (omega arith) (λ j low high. rw (x-end j low, zero-mul)))
+  correlation-room D fits =
+      sym (sum-cong D _ _ (λ p h. product-term x y z i p) ∙ sum-triangle D (λ j k. x j * (y k * z (i + j + k))) ∙ sum-cong D _ _ (correlation-row D fits)
+      ∙ sum-pad n D _ (omega arith) (λ j low high. rw (x-end j low, zero-mul)))
 
   -- the correlation of x with the correlation of y with z is the correlation of the product of x and y with z
   pub correlation-assoc : (N : ℕ) → n + m ≤ N + 1 → correlation n x (correlation m y z) i ≡ correlation N (productAt x y) z i
   unfolding correlation
-  correlation-assoc N fits = correlation-room (suc N) (omega arith) ∙ sum-pad N (suc N) _ (omega arith) (λ p low high. rw (product-end n m x y x-end y-end p (omega arith), zero-mul))
+  correlation-assoc N fits =
+      correlation-room (suc N) (omega arith) ∙ sum-pad N (suc N) _ (omega arith) (λ p low high. rw (product-end n m x y x-end y-end p (omega arith), zero-mul))
 
 -- a correlation reads only the first places of the second vector
 pub correlation-front : (n m j : ℕ) (x : ℕ → ℕ) (ys : List ℕ) → j + n ≤ m → correlation n x (at ys) j ≡ correlation n x (at (take m ys)) j

@@ -23,14 +23,17 @@ pub half-power : {q D w v e : ℕ} → Root q D w v e → (n : ℕ) → 2 * n �
 half-power {q} {D} {w} r n half =
     let whole : n + n ≡ D = omega arith in
     let square : Mod q (w ^ n * w ^ n) 1 = rw (← pow-add w n n, whole) (r .power) in
-    let fixed : Mod q ((w ^ n + 1) * w ^ n) ((w ^ n + 1) * 1) = mod-trans (mod-eq (omega arith)) (mod-trans (mod-add square (mod-refl (w ^ n))) (mod-eq (omega arith))) in
+    let fixed : Mod q ((w ^ n + 1) * w ^ n) ((w ^ n + 1) * 1) =
+    mod-trans (mod-eq (omega arith)) (mod-trans (mod-add square (mod-refl (w ^ n))) (mod-eq (omega arith))) in
     elim (zero-or-cancel (r .prime) (w ^ n + 1) fixed) [ inl none ↦ none | inr one ↦ absurd (r .order n (omega arith) (omega arith) one) ]
 
 -- where power n is −1, power 2 · n is 1
 pub whole-power : {q : ℕ} (n w : ℕ) → Mod q (w ^ n + 1) 0 → Mod q (w ^ (2 * n)) 1
 whole-power n w minus =
     let double : 2 * n ≡ n + n = omega arith in
-    rw (double, pow-add) (mod-add-cancel (w ^ n) (mod-trans (mod-eq (omega arith)) (mod-trans (mod-mul (mod-refl (w ^ n)) minus) (mod-trans (mod-eq (mul-zero (w ^ n))) (mod-trans (mod-sym minus) (mod-eq (omega arith)))))))
+    rw (double, pow-add) (mod-add-cancel (w ^ n)
+    (mod-trans (mod-eq (omega arith))
+    (mod-trans (mod-mul (mod-refl (w ^ n)) minus) (mod-trans (mod-eq (mul-zero (w ^ n))) (mod-trans (mod-sym minus) (mod-eq (omega arith)))))))
 
 -- value k of a transform of size 2 · n as value k of one of size n
 halves : (n w : ℕ) (x : ℕ → ℕ) (k : ℕ) → transformAt (2 * n) w x k ≡ transformAt n w (λ j. x j + x (n + j) * w ^ (k * n)) k
@@ -53,23 +56,32 @@ odd-value n w x i =
     rw (power, pow-add, pow-mul, mul-assoc))
 
 -- an even value from the sums of the two halves
-pub radix-even : {q : ℕ} (n w : ℕ) (x : ℕ → ℕ) (i : ℕ) → Mod q (w ^ (2 * n)) 1 → Mod q (transformAt (2 * n) w x (2 * i)) (transformAt n (w ^ 2) (λ j. x j + x (n + j)) i)
+pub radix-even : {q : ℕ} (n w : ℕ) (x : ℕ → ℕ) (i : ℕ) → Mod q (w ^ (2 * n)) 1
+    → Mod q (transformAt (2 * n) w x (2 * i)) (transformAt n (w ^ 2) (λ j. x j + x (n + j)) i)
 radix-even n w x i whole =
     let power : 2 * i * n ≡ 2 * n * i = omega arith in
-    rw (halves, even-value, power) (transform-mod n (w ^ 2) _ _ i (λ j h. mod-add (mod-refl (x j)) (mod-trans (mod-mul (mod-refl (x (n + j))) (power-whole w (2 * n) i whole)) (mod-eq (mul-one (x (n + j)))))))
+    rw (halves, even-value, power)
+    (transform-mod n (w ^ 2) _ _ i
+    (λ j h. mod-add (mod-refl (x j)) (mod-trans (mod-mul (mod-refl (x (n + j))) (power-whole w (2 * n) i whole)) (mod-eq (mul-one (x (n + j)))))))
 
 -- a − b, by a factor m that is congruent to −1
 subtract : {q a c : ℕ} (b m : ℕ) → Mod q (m + 1) 0 → Mod q (c + b) a → Mod q (a + b * m) c
-subtract {c = c} b m minus difference = mod-trans (mod-add (mod-sym difference) (mod-refl (b * m))) (mod-trans (mod-eq (omega arith)) (mod-trans (mod-add (mod-refl c) (mod-mul (mod-refl b) minus)) (mod-eq (omega arith))))
+subtract {c = c} b m minus difference =
+    mod-trans (mod-add (mod-sym difference) (mod-refl (b * m)))
+    (mod-trans (mod-eq (omega arith)) (mod-trans (mod-add (mod-refl c) (mod-mul (mod-refl b) minus)) (mod-eq (omega arith))))
 
 -- an odd value from the differences c of the two halves, times powers of the root
-pub radix-odd : {q : ℕ} (n w : ℕ) (x c : ℕ → ℕ) (i : ℕ) → Mod q (w ^ n + 1) 0 → ((j : ℕ) → j < n → Mod q (c j + x (n + j)) (x j)) → Mod q (transformAt (2 * n) w x (2 * i + 1)) (transformAt n (w ^ 2) (λ j. c j * w ^ j) i)
+pub radix-odd : {q : ℕ} (n w : ℕ) (x c : ℕ → ℕ) (i : ℕ) → Mod q (w ^ n + 1) 0 → ((j : ℕ) → j < n → Mod q (c j + x (n + j)) (x j))
+    → Mod q (transformAt (2 * n) w x (2 * i + 1)) (transformAt n (w ^ 2) (λ j. c j * w ^ j) i)
 radix-odd {q} n w x c i minus difference =
     let power : (2 * i + 1) * n ≡ n + 2 * n * i = omega arith in
-    let odd : Mod q (w ^ (n + 2 * n * i) + 1) 0 = rw (pow-add, mul-comm (w ^ n)) (mod-trans (mod-add (mod-one-mul (w ^ n) (power-whole w (2 * n) i (whole-power n w minus))) (mod-refl 1)) minus) in
-    rw (halves, odd-value, power) (transform-mod n (w ^ 2) _ _ i (λ j h. mod-mul (subtract (x (n + j)) (w ^ (n + 2 * n * i)) odd (difference j h)) (mod-refl (w ^ j))))
+    let odd : Mod q (w ^ (n + 2 * n * i) + 1) 0 =
+    rw (pow-add, mul-comm (w ^ n)) (mod-trans (mod-add (mod-one-mul (w ^ n) (power-whole w (2 * n) i (whole-power n w minus))) (mod-refl 1)) minus) in
+    rw (halves, odd-value, power)
+    (transform-mod n (w ^ 2) _ _ i (λ j h. mod-mul (subtract (x (n + j)) (w ^ (n + 2 * n * i)) odd (difference j h)) (mod-refl (w ^ j))))
 
--- the passes of a transform F of s · n places that have divided its size by s: value s · i + c is value i of the transform of size n of the places c, c + s, c + 2s, .. of y
+-- the passes of a transform F of s · n places that have divided its size by s: value s · i + c is value i of the transform of size n of the places c, c +
+-- s, c + 2s, .. of y
 pub record Passed (q s n w : ℕ) (F y : ℕ → ℕ) : Type 0 where
   pub value : (i c : ℕ) → i < n → c < s → Mod q (F (s * i + c)) (transformAt n (w ^ s) (λ j. y (s * j + c)) i)
 
@@ -97,26 +109,39 @@ module _ {q : ℕ} (s n w : ℕ) {F y : ℕ → ℕ} (before : Passed q s (2 * n
   pass-minus = rw pow-mul minus
 
   -- the values that come from sums
-  pass-sums : (i c : ℕ) → i < n → c < s → ((p : ℕ) → p < n → Mod q (z (2 * s * p + c)) (y (s * p + c) + y (s * n + (s * p + c)))) → Mod q (F (2 * s * i + c)) (transformAt n (w ^ (2 * s)) (λ j. z (2 * s * j + c)) i)
+  pass-sums : (i c : ℕ) → i < n → c < s → ((p : ℕ) → p < n → Mod q (z (2 * s * p + c)) (y (s * p + c) + y (s * n + (s * p + c))))
+      → Mod q (F (2 * s * i + c)) (transformAt n (w ^ (2 * s)) (λ j. z (2 * s * j + c)) i)
   pass-sums i c h k sums =
       let place : 2 * s * i + c ≡ s * (2 * i) + c = omega arith in
       let half : (j : ℕ) → s * n + (s * j + c) ≡ s * (n + j) + c = λ j. omega arith in
-      rw (place, mul-comm 2 s, ← pow-mul w s 2) (mod-trans (before .value (2 * i) c (omega arith) k) (mod-trans (radix-even n (w ^ s) _ i (whole-power n (w ^ s) pass-minus)) (transform-mod n _ _ _ i (λ j l. mod-sym (rw (mul-comm 2 s, half j) at (sums j l))))))
+      rw (place, mul-comm 2 s, ← pow-mul w s 2)
+      (mod-trans (before .value (2 * i) c (omega arith) k)
+      (mod-trans (radix-even n (w ^ s) _ i (whole-power n (w ^ s) pass-minus))
+      (transform-mod n _ _ _ i (λ j l. mod-sym (rw (mul-comm 2 s, half j) at (sums j l))))))
 
   -- the values that come from differences
-  pass-differences : (d : ℕ → ℕ) (i c : ℕ) → i < n → c < s → ((p : ℕ) → p < n → Mod q (d p + y (s * n + (s * p + c))) (y (s * p + c))) → ((p : ℕ) → p < n → Mod q (z (2 * s * p + (s + c))) (d p * w ^ (s * p))) → Mod q (F (2 * s * i + (s + c))) (transformAt n (w ^ (2 * s)) (λ j. z (2 * s * j + (s + c))) i)
+  pass-differences : (d : ℕ → ℕ) (i c : ℕ) → i < n → c < s → ((p : ℕ) → p < n → Mod q (d p + y (s * n + (s * p + c))) (y (s * p + c)))
+      → ((p : ℕ) → p < n → Mod q (z (2 * s * p + (s + c))) (d p * w ^ (s * p)))
+      → Mod q (F (2 * s * i + (s + c))) (transformAt n (w ^ (2 * s)) (λ j. z (2 * s * j + (s + c))) i)
   pass-differences d i c h k difference values =
       let half : (j : ℕ) → s * n + (s * j + c) ≡ s * (n + j) + c = λ j. omega arith in
       let place : 2 * s * i + (s + c) ≡ s * (2 * i + 1) + c = omega arith in
-      rw (place, mul-comm 2 s, ← pow-mul w s 2) (mod-trans (before .value (2 * i + 1) c (omega arith) k) (mod-trans (radix-odd n (w ^ s) _ d i pass-minus (λ j l. rw (half j) at (difference j l))) (transform-mod n _ _ _ i (λ j l. mod-sym (rw (mul-comm 2 s, ← pow-mul w s j) at (values j l))))))
+      rw (place, mul-comm 2 s, ← pow-mul w s 2)
+      (mod-trans (before .value (2 * i + 1) c (omega arith) k)
+      (mod-trans (radix-odd n (w ^ s) _ d i pass-minus (λ j l. rw (half j) at (difference j l)))
+      (transform-mod n _ _ _ i (λ j l. mod-sym (rw (mul-comm 2 s, ← pow-mul w s j) at (values j l))))))
 
   -- one pass: z holds the sums of the two halves of y, and their differences d times powers of the root
-  pub next-pass : (d : ℕ → ℕ) → ((p c : ℕ) → p < n → c < s → Mod q (d (s * p + c) + y (s * n + (s * p + c))) (y (s * p + c))) → ((p c : ℕ) → p < n → c < s → Mod q (z (2 * s * p + c)) (y (s * p + c) + y (s * n + (s * p + c)))) → ((p c : ℕ) → p < n → c < s → Mod q (z (2 * s * p + (s + c))) (d (s * p + c) * w ^ (s * p))) → Passed q (2 * s) n w F z
+  pub next-pass : (d : ℕ → ℕ) → ((p c : ℕ) → p < n → c < s → Mod q (d (s * p + c) + y (s * n + (s * p + c))) (y (s * p + c)))
+      → ((p c : ℕ) → p < n → c < s → Mod q (z (2 * s * p + c)) (y (s * p + c) + y (s * n + (s * p + c))))
+      → ((p c : ℕ) → p < n → c < s → Mod q (z (2 * s * p + (s + c))) (d (s * p + c) * w ^ (s * p))) → Passed q (2 * s) n w F z
   next-pass d difference sums values =
       record {
         value = λ i c h k.
             elim (decLe s c) [
-              | yes upper ↦ rw (← add-sub-of-le upper) (pass-differences (λ p. d (s * p + (c - s))) i (c - s) h (omega arith) (λ p l. difference p (c - s) l (omega arith)) (λ p l. values p (c - s) l (omega arith)))
+              | yes upper ↦ rw (← add-sub-of-le upper)
+                  (pass-differences (λ p. d (s * p + (c - s))) i (c - s) h (omega arith) (λ p l. difference p (c - s) l (omega arith))
+                  (λ p l. values p (c - s) l (omega arith)))
               | no lower ↦ pass-sums i c h (omega arith) (λ p l. sums p c l (omega arith))
             ];
       }

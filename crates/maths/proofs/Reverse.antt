@@ -3,7 +3,7 @@
 use mathlib.Core.Path.{_≡_, refl, sym, ap, _∙_}
 use mathlib.Core.List.{List, [], _∷_, _++_, reverse, reverse-cons}
 use Prim.Native.Nat.{ℕ, zero, suc, _+_, _-_, _≤_, _<_}
-use native.Mathlib.Nat.{add-zero, le-dest}
+use native.Mathlib.Nat.{add-zero}
 use native.Mathlib.Decide.{decLt}
 use native.Mathlib.Omega.{arith}
 use lib.IntN.{ℤ, pos, _+ℤ_, _*ℤ_, +ℤ-assoc, +ℤ-comm, +ℤ-idr, zero-*ℤ}
@@ -69,7 +69,8 @@ correlationℤ-middle x y j some =
     let l : ℕ = n - 1 + j in
     let term : ℕ → ℤ = λ i. getD (reverse x) i (pos 0) *ℤ getD y (l - i) (pos 0) in
     let past : (i : ℕ) → n ≤ i → term i ≡ pos 0 =
-    λ i h. ap (λ (z : ℤ). z *ℤ getD y (l - i) (pos 0)) (List·getD-eq-default (reverse x) (pos 0) {n = i} (omega (arith, length-reverse x))) ∙ zero-*ℤ (getD y (l - i) (pos 0)) in
+    λ i h. ap (λ (z : ℤ). z *ℤ getD y (l - i) (pos 0)) (List·getD-eq-default (reverse x) (pos 0) {n = i} (omega (arith, length-reverse x)))
+    ∙ zero-*ℤ (getD y (l - i) (pos 0)) in
     let size : suc l ≡ n + j = omega arith in
     let each : (i : ℕ) → i < n → getD x i (pos 0) *ℤ getD y (j + i) (pos 0) ≡ term (n - 1 - i) = λ i h.
     let back : n - 1 - (n - 1 - i) ≡ i = omega arith in

@@ -70,20 +70,26 @@ module _ {q D w v e : ℕ} (r : Root q D w v e) where
   orthogonal-other i k low high other =
       let x : ℕ = w ^ i * v ^ k in
       let s : ℕ = sum D (λ m. x ^ m) in
-      let whole : Mod q (x ^ D) 1 = rw (← power-term w v i k D, ← pow-mul w, ← pow-mul v) (mod-trans (mod-mul (mod-pow i (r .power)) (mod-pow k (root-inverse r .power))) (mod-eq (simp one-pow))) in
-      let fixed : Mod q (s * x) (s * 1) = mod-add-cancel 1 (mod-trans (mod-eq (omega (arith, geometric x D))) (mod-trans (mod-add (mod-refl s) whole) (mod-eq (omega arith)))) in
+      let whole : Mod q (x ^ D) 1 =
+      rw (← power-term w v i k D, ← pow-mul w, ← pow-mul v)
+      (mod-trans (mod-mul (mod-pow i (r .power)) (mod-pow k (root-inverse r .power))) (mod-eq (simp one-pow))) in
+      let fixed : Mod q (s * x) (s * 1) =
+      mod-add-cancel 1 (mod-trans (mod-eq (omega (arith, geometric x D))) (mod-trans (mod-add (mod-refl s) whole) (mod-eq (omega arith)))) in
       simp power-term (elim (zero-or-cancel (r .prime) s fixed) [ inl none ↦ none | inr same ↦ absurd (powers-differ i k low high other same) ])
 
   -- the sum of x_j times these sums, divided by the size, picks place i of x
   pub root-pick : (x : ℕ → ℕ) (i : ℕ) → i < D → Mod q (e * sum D (λ j. x j * sum D (λ m. w ^ (m * j) * v ^ (m * i)))) (x i)
   root-pick x i h =
       let o : ℕ → ℕ = λ j. sum D (λ m. w ^ (m * j) * v ^ (m * i)) in
-      let others : (j : ℕ) → j < D → j ≢ i → Mod q (x j * o j) 0 = λ j l d. mod-trans (mod-mul (mod-refl (x j)) (orthogonal-other j i l h d)) (mod-eq (mul-zero (x j))) in
-      mod-trans (mod-mul (mod-refl e) (mod-trans (mod-sum-pick D (λ j. x j * o j) i h others) (mod-mul (mod-refl (x i)) (orthogonal-same i)))) (mod-trans (mod-eq (omega arith)) (mod-one-mul (x i) (r .size-inverse)))
+      let others : (j : ℕ) → j < D → j ≢ i → Mod q (x j * o j) 0 =
+      λ j l d. mod-trans (mod-mul (mod-refl (x j)) (orthogonal-other j i l h d)) (mod-eq (mul-zero (x j))) in
+      mod-trans (mod-mul (mod-refl e) (mod-trans (mod-sum-pick D (λ j. x j * o j) i h others) (mod-mul (mod-refl (x i)) (orthogonal-same i))))
+      (mod-trans (mod-eq (omega arith)) (mod-one-mul (x i) (r .size-inverse)))
 
   -- the transform with the inverse root, divided by the size, undoes the transform
   pub inversion : (x : ℕ → ℕ) (i : ℕ) → i < D → Mod q (e * transformAt D v (transformAt D w x) i) (x i)
   unfolding transformAt
   inversion x i h =
-      let swapped : transformAt D v (transformAt D w x) i ≡ sum D (λ j. x j * sum D (λ m. w ^ (m * j) * v ^ (m * i))) = simp (← sum-mul-right, ← sum-mul-left, mul-assoc, mul-comm i) (sum-swap D D _) in
+      let swapped : transformAt D v (transformAt D w x) i ≡ sum D (λ j. x j * sum D (λ m. w ^ (m * j) * v ^ (m * i))) =
+      simp (← sum-mul-right, ← sum-mul-left, mul-assoc, mul-comm i) (sum-swap D D _) in
       rw swapped (root-pick x i h)

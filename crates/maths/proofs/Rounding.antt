@@ -1,4 +1,5 @@
--- Laws of the two roundings: what nearest computes, the thresholds, the one number where the two differ, and the sizes of noise at which a bit is read rightly or wrongly.
+-- Laws of the two roundings: what nearest computes, the thresholds, the one number where the two differ, and the sizes of noise at which a bit is read
+-- rightly or wrongly.
 -- Assumes nothing.
 use mathlib.Core.Path.{_≡_, sym, ap, _∙_}
 use mathlib.Core.Logic.{_≢_, _⊎_, inl, inr}
@@ -11,7 +12,8 @@ use borrow.Author.Tests.{le-leb, lt-leb}
 use Rattle.maths.specs.Integer.{residue}
 use Rattle.maths.specs.Rounding.{floorBit, nearest, centredBit, thresholdBit}
 use Rattle.maths.specs.BitClaim.{BitClaim}
-use Rattle.maths.proofs.Integer.{equal-by-parts, +ℤ-parts, negℤ-parts, *ℤ-parts, scaled, natAbs-negℤ, residue-lt, residue-low, residue-high, centre-low, centre-high}
+use Rattle.maths.proofs.Integer.{equal-by-parts, +ℤ-parts, negℤ-parts, *ℤ-parts, scaled, natAbs-negℤ, residue-lt, residue-low, residue-high}
+use Rattle.maths.proofs.Integer.{centre-low, centre-high}
 
 -- nearest h z is floor((2z + h) / 2h): 2z + h is 2h · nearest h z and a remainder from 0 to 2h − 1
 pub nearest-floor : (h : ℕ) (z : ℤ) → 0 < h → (t : ℕ) × (t < 2 * h) × (pos 2 *ℤ z +ℤ pos h ≡ pos (2 * h) *ℤ nearest h z +ℤ pos t)

@@ -106,12 +106,15 @@ sum-pad m n f h e =
 pub sum-triangle : (D : ℕ) (f : ℕ → ℕ → ℕ) → sum D (λ p. sum (suc p) (λ j. f j (p - j))) ≡ sum D (λ j. sum (D - j) (λ k. f j k))
 sum-triangle zero f = simp sum-none
 sum-triangle (suc D) f =
-    let column : (j : ℕ) → j < suc D → sum (suc D - j) (f j) ≡ sum (D - j) (f j) + f j (D - j) = λ j h. let e : suc D - j ≡ suc (D - j) = omega arith in rw (e, sum-last) in
+    let column : (j : ℕ) → j < suc D → sum (suc D - j) (f j) ≡ sum (D - j) (f j) + f j (D - j) =
+    λ j h. let e : suc D - j ≡ suc (D - j) = omega arith in rw (e, sum-last) in
     let empty : sum (D - D) (f D) ≡ 0 = rw (sub-self, sum-none) in
-    omega (arith, sum-triangle D f, sum-last D (λ p. sum (suc p) (λ j. f j (p - j))), sum-cong (suc D) (λ j. sum (suc D - j) (f j)) (λ j. sum (D - j) (f j) + f j (D - j)) column, sum-add (suc D) (λ j. sum (D - j) (f j)) (λ j. f j (D - j)), sum-last D (λ j. sum (D - j) (f j)))
-
--- a sum of n terms of at most b each is at most n · b
-pub sum-le : (n b : ℕ) (f : ℕ → ℕ) → ((i : ℕ) → i < n → f i ≤ b) → sum n f ≤ n * b
-unfolding sum
-sum-le zero b f e = omega arith
-sum-le (suc n) b f e = omega (arith, sum-le n b f (λ i h. e i (omega arith)), e n (omega arith))
+    omega (
+      arith,
+      sum-triangle D f,
+      sum-last D (λ p. sum (suc p) (λ j. f j (p - j))),
+      sum-cong (suc D) (λ j. sum (suc D - j) (f j))
+          (λ j. sum (D - j) (f j) + f j (D - j)) column,
+      sum-add (suc D) (λ j. sum (D - j) (f j)) (λ j. f j (D - j)),
+      sum-last D (λ j. sum (D - j) (f j)),
+    )

@@ -1,4 +1,5 @@
--- Demand 3 at one place (01, Reading, the gap of bench figures 8 to 11, and What demand 3 speaks of): the bit read beside the bit sent, by the noise there and the half modulus h.
+-- Demand 3 at one place (01, Reading, the gap of bench figures 8 to 11, and What demand 3 speaks of): the bit read beside the bit sent, by the noise there
+-- and the half modulus h.
 -- Assumes nothing.
 use mathlib.Core.Path.{_≡_}
 use Prim.Native.Nat.{ℕ, _+_, _-_, _*_, _<_}

@@ -1,4 +1,5 @@
--- The number theoretic transform and the order in which 003 stores it (003 section 3.2, NTT'; algorithms 15 and 16, Perm and InvPerm, read as docs/DECISIONS.md says).
+-- The number theoretic transform and the order in which 003 stores it (003 section 3.2, NTT'; algorithms 15 and 16, Perm and InvPerm, read as
+-- docs/DECISIONS.md says).
 -- Assumes nothing.
 use mathlib.Core.Path.{_≡_, refl}
 use mathlib.Core.List.{List, [], _∷_}

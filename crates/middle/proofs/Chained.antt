@@ -3,24 +3,27 @@
 use mathlib.Core.Path.{_≡_, refl, sym, ap, _∙_}
 use mathlib.Core.Bool.{Bool, true, false}
 use mathlib.Core.List.{List, _++_}
-use Prim.Native.Nat.{ℕ, _+_, _<_}
+use Prim.Native.Nat.{ℕ, _+_}
 use native.Mathlib.Nat.{zero-add}
 use native.Mathlib.Omega.{arith}
 use lib.Dec.{ltb}
-use lib.ListN.{length, getD}
+use lib.ListN.{length}
 use Rattle.calls.specs.declared.Answer.{Answer}
 use Rattle.calls.specs.declared.Answer.the-variants.{Done, Refused}
 use Rattle.calls.specs.Outcome.{Outcome, accepted, refused, refuse, outcome}
 use Rattle.calls.specs.Checks.{passing, refuseFirst, below}
+use Rattle.middle.specs.Operand.{Below}
 use Rattle.calls.proofs.Outcome.{accepted-refused}
 use Rattle.calls.proofs.Checks.{refuseFirst-passes, refuseFirst-accepted, refuseFirst-below-append, passing-below}
 
 -- a check that refuses does so whatever comes after
-refuse-still : (t : Bool) (n p : ℕ) (after : Outcome) {number place : ℕ} → refuse t n p accepted ≡ refused number place → refuse t n p after ≡ refused number place
+refuse-still : (t : Bool) (n p : ℕ) (after : Outcome) {number place : ℕ} → refuse t n p accepted ≡ refused number place
+    → refuse t n p after ≡ refused number place
 refuse-still true n p after e = e
 refuse-still false n p after e = absurd (accepted-refused refl e)
 
-module _ {A : Type 0} (test : ℕ → A → Bool) (offset : ℕ) (xs : List A) (after : Outcome) {x : Answer} (e : outcome x ≡ refuseFirst test 0 offset xs accepted) where
+module _ {A : Type 0} (test : ℕ → A → Bool) (offset : ℕ) (xs : List A) (after : Outcome) {x : Answer}
+    (e : outcome x ≡ refuseFirst test 0 offset xs accepted) where
   -- the check of the first slice refused: so do all checks together
   pub first-refused : {number place : ℕ} → x ≡ Refused number place → refused number place ≡ refuseFirst test 0 offset xs after
   unfolding refuseFirst
@@ -40,18 +43,16 @@ pub two-slices : (limit : ℕ) (xs ys : List ℕ) (after : Outcome)
     → refuseFirst (below limit) 0 0 (xs ++ ys) after ≡ refuseFirst (below limit) 0 0 xs (refuseFirst (below limit) 0 (length xs) ys after)
 two-slices limit xs ys after = refuseFirst-below-append limit 0 xs ys after ∙ rw zero-add
 
--- every number is below the limit
-abbrev pub Below : ℕ → List ℕ → Type 0
-Below limit xs = (k : ℕ) → k < length xs → getD xs k 0 < limit
-
 -- an accepted check: every number is below the limit, and what comes after accepts
-pub accepted-one : (limit offset : ℕ) (xs : List ℕ) (after : Outcome) → refuseFirst (below limit) 0 offset xs after ≡ accepted → Below limit xs × (after ≡ accepted)
+pub accepted-one : (limit offset : ℕ) (xs : List ℕ) (after : Outcome) → refuseFirst (below limit) 0 offset xs after ≡ accepted
+    → Below limit xs × (after ≡ accepted)
 accepted-one limit offset xs after e =
     let both = refuseFirst-accepted (below limit) 0 offset xs after e in
     (passing-below limit xs (both .0), both .1)
 
 -- the same for two slices
-pub accepted-two : (limit : ℕ) (xs ys : List ℕ) (after : Outcome) → refuseFirst (below limit) 0 0 (xs ++ ys) after ≡ accepted → Below limit xs × Below limit ys × (after ≡ accepted)
+pub accepted-two : (limit : ℕ) (xs ys : List ℕ) (after : Outcome) → refuseFirst (below limit) 0 0 (xs ++ ys) after ≡ accepted
+    → Below limit xs × Below limit ys × (after ≡ accepted)
 accepted-two limit xs ys after e =
     let first = accepted-one limit 0 xs _ (sym (two-slices limit xs ys after) ∙ e) in
     let second = accepted-one limit (length xs) ys after (first .1) in

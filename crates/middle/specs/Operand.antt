@@ -4,7 +4,11 @@ use mathlib.Core.List.{List}
 use Prim.Native.Nat.{ℕ, _^_, _≤_, _<_}
 use lib.ListN.{length, getD}
 
+-- every number of xs is below a limit
+abbrev pub Below : ℕ → List ℕ → Type 0
+Below limit xs = (k : ℕ) → k < length xs → getD xs k 0 < limit
+
 -- at most 4,096 numbers below 2^24
 pub record Operand (xs : List ℕ) : Type 0 where
   pub most : length xs ≤ 4096
-  pub small : (k : ℕ) → k < length xs → getD xs k 0 < 2 ^ 24
+  pub small : Below (2 ^ 24) xs

@@ -1,4 +1,5 @@
-// The middle product of two slices of residues, an open call (01, Middle product), with the product places and the checks that other open calls on numbers share.
+// The middle product of two slices of residues, an open call (01, Middle product), with the product places and the checks that other open calls on
+// numbers share.
 use calls::Answer;
 ghost use mathlib.Core.Path.{_≡_};
 ghost use Prim.Native.Nat.{_<_, _≤_};
@@ -55,7 +56,7 @@ pub fn middle_product(set: usize, a: &[u32], b: &[u32], out: &mut [u32]) -> Answ
     ensures answer { λ r. ⌜ outcome r ≡ middleAnswer set (now (a .entry)) (now (b .entry)) (length (now (out .entry))) ⌝ }
     ensures left { λ _. ⌜ now (out .exit) ≡ middleLeft set (now (a .entry)) (now (b .entry)) (now (out .entry)) ⌝ }
 {
-    if 12 < set {
+    if sets::LAST < set {
         return Answer::Refused(1, 0);
     }
     let p = sets::parameters_of(set);

@@ -7,19 +7,20 @@ use Rattle.maths.specs.Rounding.{floorBit, centredBit, thresholdBit}
 use Rattle.maths.proofs.Rounding.{centredBit-threshold}
 use Rattle.sets.specs.declared.Parameters.{Parameters}
 use Rattle.sets.specs.Derived.{halfModulus}
-use Rattle.numbers.specs.Scheme.{bitRead}
+use Rattle.numbers.specs.Scheme.{roundedBit}
 
 module _ (set : ℕ) (p : Parameters) (w : ℕ) where
   -- set 0
-  pub bitRead-bench : set ≡ 0 → bitRead set p w ≡ floorBit (halfModulus p) w
-  unfolding bitRead
-  bitRead-bench e = rw (eq-eqb set 0 e)
+  pub roundedBit-bench : set ≡ 0 → roundedBit set p w ≡ floorBit (halfModulus p) w
+  unfolding roundedBit
+  roundedBit-bench e = rw (eq-eqb set 0 e)
 
   -- the other sets
-  pub bitRead-centred : (set ≡ 0 → ⊥) → bitRead set p w ≡ centredBit (halfModulus p) w
-  unfolding bitRead
-  bitRead-centred e = rw (ne-eqb set 0 e)
+  pub roundedBit-centred : (set ≡ 0 → ⊥) → roundedBit set p w ≡ centredBit (halfModulus p) w
+  unfolding roundedBit
+  roundedBit-centred e = rw (ne-eqb set 0 e)
 
   -- by thresholds
-  pub bitRead-threshold : (set ≡ 0 → ⊥) → 0 < halfModulus p → halfModulus p ≡ 2 * (halfModulus p / 2) → w < 2 * halfModulus p + 1 → bitRead set p w ≡ thresholdBit (halfModulus p) w
-  bitRead-threshold e some even small = bitRead-centred e ∙ centredBit-threshold (halfModulus p) (halfModulus p / 2) w some even small
+  pub roundedBit-threshold : (set ≡ 0 → ⊥) → 0 < halfModulus p → halfModulus p ≡ 2 * (halfModulus p / 2)
+      → w < 2 * halfModulus p + 1 → roundedBit set p w ≡ thresholdBit (halfModulus p) w
+  roundedBit-threshold e some even small = roundedBit-centred e ∙ centredBit-threshold (halfModulus p) (halfModulus p / 2) w some even small

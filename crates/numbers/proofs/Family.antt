@@ -15,6 +15,10 @@ use Rattle.numbers.specs.Operands.{Family}
 pub vector-fits : (n t i : ℕ) → i < t → n * i + n ≤ t * n
 vector-fits n t i h = rw (← mul-suc n i, mul-comm t n) (mul-le-mul-left {m = suc i} {n = t} n h)
 
+-- vector i of t vectors has its length
+pub vector-length : {A : Type 0} (n t i : ℕ) (xs : List A) → length xs ≡ t * n → i < t → length (vector n xs i) ≡ n
+vector-length n t i xs size h = region-length xs (n * i) n (rw size (vector-fits n t i h))
+
 -- place l of t vectors of w numbers is in one of them
 pub vector-index : (w t l : ℕ) → 0 < w → l < t * w → l / w < t
 vector-index w t l some h = div-lt-iff-lt-mul {k = w} {x = l} {y = t} some .1 h
@@ -26,7 +30,7 @@ module _ {q n t : ℕ} {xs : List ℕ} (f : Family q n t xs) (i : ℕ) (h : i < 
 
   -- vector i has its length
   pub family-length : length (vector n xs i) ≡ n
-  family-length = region-length xs (n * i) n family-room
+  family-length = vector-length n t i xs (f .size) h
 
   -- it is a factor
   pub family-operand : q < 2 ^ 24 → n ≤ 4096 → Operand (vector n xs i)
@@ -35,5 +39,7 @@ module _ {q n t : ℕ} {xs : List ℕ} (f : Family q n t xs) (i : ℕ) (h : i < 
       let size = family-length in
       record {
         most = omega arith;
-        small = λ k l. let inside : k < n = omega arith in rw (region-entry xs (n * i) n k 0 inside) (omega (arith, f .each (n * i + k) (omega arith)));
+        small = λ k l.
+            let inside : k < n = omega arith in
+            rw (region-entry xs (n * i) n k 0 inside) (omega (arith, f .each (n * i + k) (omega arith)));
       }

@@ -48,7 +48,8 @@ pub multiplier-zero : (p : Parameters) (position : ℕ) (z : ℤ) → leb (natAb
 multiplier-zero p position z e = rw (lt-leb 1 (natAbs z) (omega (arith, leb-true (natAbs z) 0 e)))
 
 -- another number is one where its size is within the bound
-pub multiplier-within : (p : Parameters) (position : ℕ) (z : ℤ) → leb (natAbs z) 0 ≡ false → leb (natAbs z) (multiplierBound p position) ≡ isMultiplier p position z
+pub multiplier-within : (p : Parameters) (position : ℕ) (z : ℤ) → leb (natAbs z) 0 ≡ false → leb (natAbs z) (multiplierBound p position)
+    ≡ isMultiplier p position z
 multiplier-within p position z e = rw (le-leb 1 (natAbs z) (omega (arith, leb-false (natAbs z) 0 e)))
 
 -- the second of two tests that hold
@@ -64,7 +65,8 @@ accepted-multipliers p kept offset rs after e =
       λ k h.
           let z = getD rs k (pos 0) in
           let bound = multiplierBound p (0 + k) in
-          let within : natAbs z ≤ bound = leb-true (natAbs z) bound (second-true (leb 1 (natAbs z)) (leb (natAbs z) bound) (passing-all (isMultiplier p) 0 rs (pos 0) .0 (both .0) k h)) in
+          let within : natAbs z ≤ bound = leb-true (natAbs z) bound
+          (second-true (leb 1 (natAbs z)) (leb (natAbs z) bound) (passing-all (isMultiplier p) 0 rs (pos 0) .0 (both .0) k h)) in
           omega (arith, bound-small p kept (0 + k)),
       both .1,
     )

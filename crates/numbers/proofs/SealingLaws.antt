@@ -2,8 +2,8 @@
 -- Assumes nothing.
 use mathlib.Core.Path.{_≡_, refl, sym, ap, _∙_}
 use mathlib.Core.Bool.{true}
-use mathlib.Core.List.{List, _++_}
-use Prim.Native.Nat.{ℕ, _+_, _*_, _%_, _≤_, _<_}
+use mathlib.Core.List.{List}
+use Prim.Native.Nat.{ℕ, _+_, _-_, _*_, _%_, _≤_, _<_}
 use native.Mathlib.Nat.{zero-mod, add-mod, mod-lt}
 use native.Mathlib.Numerals.{add-one}
 use native.Mathlib.Omega.{arith}
@@ -11,23 +11,26 @@ use lib.IntN.{ℤ}
 use lib.ListN.{length, length-map}
 use Rattle.maths.specs.Sum.{sum}
 use Rattle.maths.specs.Vector.{at, tabulate}
-use Rattle.maths.specs.Product.{product}
+use Rattle.maths.specs.Product.{product, middleProduct}
+use Rattle.maths.specs.Congruence.{Mod}
 use Rattle.maths.specs.Integer.{residue}
 use Rattle.maths.proofs.Sum.{sum-none, sum-last}
 use Rattle.maths.proofs.Vector.{tabulate-length, tabulate-at}
+use Rattle.maths.proofs.Congruence.{mod-remainder, mod-sum}
+use Rattle.maths.proofs.Product.{middleProduct-at}
 use Rattle.maths.proofs.Integer.{residue-lt}
-use Rattle.calls.specs.Outcome.{accepted}
-use Rattle.calls.specs.Checks.{allOf, refuseFirst, below}
+use Rattle.calls.specs.Checks.{allOf}
 use Rattle.sets.specs.declared.Parameters.{Parameters}
-use Rattle.sets.specs.Table.{setOf}
+use Rattle.sets.specs.Table.{setOf, lastSet}
 use Rattle.sets.specs.Derived.{halfModulus, multiplierCount}
 use Rattle.sets.specs.Rules.{Rules}
-use Rattle.middle.proofs.Chained.{Below}
+use Rattle.middle.specs.Operand.{Below}
 use Rattle.middle.proofs.OpenCall.{opening-passed}
 use Rattle.calls.specs.Region.{vector}
-use Rattle.numbers.specs.Scheme.{residues, sumOfProducts, firstPart, secondPart}
+use Rattle.numbers.specs.Scheme.{residues, sumOfProducts, firstPart, sumOfMiddles, secondPart}
 use Rattle.numbers.specs.Operands.{Family}
-use Rattle.numbers.specs.Calls.{isMultiplier, sealingShape, sealingAnswer}
+use Rattle.numbers.specs.Calls.{sealingShape, sealingRange, sealingAnswer}
+use Rattle.numbers.proofs.Family.{vector-length}
 use Rattle.numbers.proofs.KeyLaws.{residues-at}
 
 -- s is the sum of the first i of t terms modulo q
@@ -53,9 +56,23 @@ abbrev pub productTerms : ℕ → List ℕ → ℕ → List ℕ → ℕ → ℕ 
 productTerms m xs n ys place i = product (vector m xs i) (vector n ys i) place
 
 -- the sum of products is the sum of its terms
-pub sumOfProducts-terms : (t m : ℕ) (xs : List ℕ) (n : ℕ) (ys : List ℕ) (place : ℕ) → sum t (productTerms m xs n ys place) ≡ sumOfProducts t m xs n ys place
+pub sumOfProducts-terms : (t m : ℕ) (xs : List ℕ) (n : ℕ) (ys : List ℕ) (place : ℕ)
+    → sum t (productTerms m xs n ys place) ≡ sumOfProducts t m xs n ys place
 unfolding sumOfProducts
 sumOfProducts-terms t m xs n ys place = refl
+
+-- the sum of the middle products is the sum of the products from place k on, modulo q
+pub middles-products : (p : Parameters) (x b : List ℕ) (j : ℕ) → length x ≡ p .t * (p .k + 1) → j < p .d
+    → Mod (p .q) (sumOfMiddles p x b j) (sumOfProducts (p .t) (p .k + 1) x (p .d + p .k) b (p .k + j))
+unfolding sumOfMiddles sumOfProducts
+middles-products p x b j size h =
+    mod-sum (p .t) _ _ (λ i inside.
+    let u = vector (p .k + 1) x i in
+    let v = vector (p .d + p .k) b i in
+    let start : length u - 1 + j ≡ p .k + j = omega (arith, vector-length (p .k + 1) (p .t) i x size inside) in
+    let place : at (middleProduct (p .q) u v (p .d)) j ≡ product u v (p .k + j) % p .q =
+    middleProduct-at (p .q) u v (p .d) j h ∙ ap (λ (l : ℕ). product u v l % p .q) start in
+    rw place (mod-remainder (p .q) _))
 
 -- the residues of whole numbers are a family
 pub residues-family : (q m t : ℕ) (r : List ℤ) → 0 < q → length r ≡ t * m → Family q m t (residues q r)
@@ -68,7 +85,8 @@ multipliers-most p kept = kept .most-multipliers
 
 module _ (p : Parameters) (a : List ℕ) (r : List ℤ) where
   -- c1 from the residues of r
-  pub firstPart-from : {rs : List ℕ} → rs ≡ residues (p .q) r → tabulate (p .n + p .k) (λ j. sumOfProducts (p .t) (p .k + 1) rs (p .n) a j % p .q) ≡ firstPart p a r
+  pub firstPart-from : {rs : List ℕ} → rs ≡ residues (p .q) r
+      → tabulate (p .n + p .k) (λ j. sumOfProducts (p .t) (p .k + 1) rs (p .n) a j % p .q) ≡ firstPart p a r
   unfolding firstPart
   firstPart-from e = rw e
 
@@ -89,7 +107,7 @@ module _ (p : Parameters) (a : List ℕ) (r : List ℤ) where
 module _ (p : Parameters) (b : List ℕ) (r : List ℤ) (m : List ℕ) where
   -- c2 from the residues of r
   pub secondPart-from : {rs : List ℕ} → rs ≡ residues (p .q) r
-      → tabulate (p .d) (λ j. (sumOfProducts (p .t) (p .k + 1) rs (p .d + p .k) b (p .k + j) + halfModulus p * at m j) % p .q) ≡ secondPart p b r m
+      → tabulate (p .d) (λ j. (sumOfMiddles p rs b j + halfModulus p * at m j) % p .q) ≡ secondPart p b r m
   unfolding secondPart
   secondPart-from e = rw e
 
@@ -99,7 +117,7 @@ module _ (p : Parameters) (b : List ℕ) (r : List ℤ) (m : List ℕ) where
   secondPart-length = tabulate-length (p .d) _
 
   -- the number at a place
-  pub secondPart-at : (j : ℕ) → j < p .d → at (secondPart p b r m) j ≡ (sumOfProducts (p .t) (p .k + 1) (residues (p .q) r) (p .d + p .k) b (p .k + j) + halfModulus p * at m j) % p .q
+  pub secondPart-at : (j : ℕ) → j < p .d → at (secondPart p b r m) j ≡ (sumOfMiddles p (residues (p .q) r) b j + halfModulus p * at m j) % p .q
   unfolding secondPart
   secondPart-at j h = tabulate-at (p .d) _ j h
 
@@ -108,7 +126,7 @@ module _ (p : Parameters) (b : List ℕ) (r : List ℤ) (m : List ℕ) where
   secondPart-below some j h = rw (secondPart-at j (rw secondPart-length at h)) (mod-lt _ some)
 
 -- the numbers decide
-pub sealing-numbers : (set : ℕ) (p : Parameters) (a b : List ℕ) (r : List ℤ) (m : List ℕ) (c1 c2 : ℕ) → p ≡ setOf set → set ≤ 12 → allOf (sealingShape p (length a) (length b) (length r) (length m) c1 c2) ≡ true
-    → sealingAnswer set a b r m c1 c2 ≡ refuseFirst (below (p .q)) 0 0 (a ++ b) (refuseFirst (isMultiplier p) 0 (length a + length b) r (refuseFirst (below 2) 0 (length a + length b + length r) m accepted))
+pub sealing-numbers : (set : ℕ) (p : Parameters) (a b : List ℕ) (r : List ℤ) (m : List ℕ) (c1 c2 : ℕ) → p ≡ setOf set → set ≤ lastSet
+    → allOf (sealingShape p (length a) (length b) (length r) (length m) c1 c2) ≡ true → sealingAnswer set a b r m c1 c2 ≡ sealingRange p a b r m
 unfolding sealingAnswer
 sealing-numbers set p a b r m c1 c2 same h fits = rw same (opening-passed set _ 2 _ h (rw same at fits))

@@ -70,5 +70,6 @@ module _ (z : ℤ) (n : ℕ) (fits : SFits w32 z) (small : n < 2 ^ 24) where
   stored-beneath t = beneath-size z n (rw (negated, toZ-ofZ w32 z fits) at t)
 
   -- any other number
-  pub stored-between : ltZ (toZ w32 n) (toZ w32 (ofZ w32 z)) ≡ false → ltZ (toZ w32 (ofZ w32 z)) (toZ w32 (ofZ w32 (pos 0 -ℤ toZ w32 n))) ≡ false → leb (natAbs z) n ≡ true
+  pub stored-between : ltZ (toZ w32 n) (toZ w32 (ofZ w32 z)) ≡ false → ltZ (toZ w32 (ofZ w32 z)) (toZ w32 (ofZ w32 (pos 0 -ℤ toZ w32 n))) ≡ false
+      → leb (natAbs z) n ≡ true
   stored-between t u = between-size z n (rw (limit, toZ-ofZ w32 z fits) at t) (rw (negated, toZ-ofZ w32 z fits) at u)

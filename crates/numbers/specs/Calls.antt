@@ -9,7 +9,7 @@ use lib.ListN.{length}
 use Rattle.calls.specs.Outcome.{Outcome, accepted, refuse, leaves}
 use Rattle.calls.specs.Checks.{allOf, refuseFirst, below}
 use Rattle.sets.specs.declared.Parameters.{Parameters}
-use Rattle.sets.specs.Table.{setOf}
+use Rattle.sets.specs.Table.{setOf, noSet}
 use Rattle.numbers.specs.Scheme.{key, firstPart, secondPart, reading}
 
 -- an error of size at most η, at any position
@@ -29,12 +29,14 @@ abbrev pub keyShape : Parameters → ℕ → ℕ → ℕ → ℕ → List Bool
 keyShape p a s e b =
     eqb a (p .t * p .n) ∷ eqb s (p .n + p .d + p .k - 1) ∷ eqb e (p .t * (p .d + p .k)) ∷ eqb b (p .t * (p .d + p .k)) ∷ []
 
+-- 3 at the first number out of range, its place counted through a, s, e
+abbrev pub keyRange : ℕ → ℕ → List ℕ → List ℕ → List ℤ → Outcome
+keyRange q eta a s e = refuseFirst (below q) 0 0 (a ++ s) (refuseFirst (isError eta) 0 (length a + length s) e accepted)
+
 unfoldable pub keyAnswer : ℕ → List ℕ → List ℕ → List ℤ → ℕ → Outcome
 keyAnswer set a s e b =
-    refuse (ltb 12 set) 1 0
-    (refuse (not (allOf (keyShape (setOf set) (length a) (length s) (length e) b))) 2 0
-    (refuseFirst (below (setOf set .q)) 0 0 (a ++ s)
-    (refuseFirst (isError (setOf set .eta)) 0 (length a + length s) e accepted)))
+    refuse (noSet set) 1 0
+    (refuse (not (allOf (keyShape (setOf set) (length a) (length s) (length e) b))) 2 0 (keyRange (setOf set .q) (setOf set .eta) a s e))
 
 unfoldable pub keyLeft : ℕ → List ℕ → List ℕ → List ℤ → List ℕ → List ℕ
 keyLeft set a s e b = leaves (keyAnswer set a s e (length b)) (key (setOf set) a s e) b
@@ -44,13 +46,17 @@ abbrev pub sealingShape : Parameters → ℕ → ℕ → ℕ → ℕ → ℕ →
 sealingShape p a b r m c1 c2 =
     eqb a (p .t * p .n) ∷ eqb b (p .t * (p .d + p .k)) ∷ eqb r (p .t * (p .k + 1)) ∷ eqb m (p .d) ∷ eqb c1 (p .n + p .k) ∷ eqb c2 (p .d) ∷ []
 
+-- 3 at the first number out of range, its place counted through a, b, r, message; the last two from offset on
+abbrev pub multipliersAndMessage : Parameters → ℕ → List ℤ → List ℕ → Outcome
+multipliersAndMessage p offset r m = refuseFirst (isMultiplier p) 0 offset r (refuseFirst (below 2) 0 (offset + length r) m accepted)
+
+abbrev pub sealingRange : Parameters → List ℕ → List ℕ → List ℤ → List ℕ → Outcome
+sealingRange p a b r m = refuseFirst (below (p .q)) 0 0 (a ++ b) (multipliersAndMessage p (length a + length b) r m)
+
 unfoldable pub sealingAnswer : ℕ → List ℕ → List ℕ → List ℤ → List ℕ → ℕ → ℕ → Outcome
 sealingAnswer set a b r m c1 c2 =
-    refuse (ltb 12 set) 1 0
-    (refuse (not (allOf (sealingShape (setOf set) (length a) (length b) (length r) (length m) c1 c2))) 2 0
-    (refuseFirst (below (setOf set .q)) 0 0 (a ++ b)
-    (refuseFirst (isMultiplier (setOf set)) 0 (length a + length b) r
-    (refuseFirst (below 2) 0 (length a + length b + length r) m accepted))))
+    refuse (noSet set) 1 0
+    (refuse (not (allOf (sealingShape (setOf set) (length a) (length b) (length r) (length m) c1 c2))) 2 0 (sealingRange (setOf set) a b r m))
 
 unfoldable pub firstPartLeft : ℕ → List ℕ → List ℕ → List ℤ → List ℕ → List ℕ → ℕ → List ℕ
 firstPartLeft set a b r m c1 c2 = leaves (sealingAnswer set a b r m (length c1) c2) (firstPart (setOf set) a r) c1
@@ -62,11 +68,14 @@ secondPartLeft set a b r m c1 c2 = leaves (sealingAnswer set a b r m c1 (length 
 abbrev pub readingShape : Parameters → ℕ → ℕ → ℕ → ℕ → List Bool
 readingShape p c1 c2 s bits = eqb c1 (p .n + p .k) ∷ eqb c2 (p .d) ∷ eqb s (p .n + p .d + p .k - 1) ∷ eqb bits (p .d) ∷ []
 
+-- 3 at the first number out of range, its place counted through c1, c2, s
+abbrev pub readingRange : ℕ → List ℕ → List ℕ → List ℕ → Outcome
+readingRange q c1 c2 s = refuseFirst (below q) 0 0 (c1 ++ c2 ++ s) accepted
+
 unfoldable pub readingAnswer : ℕ → List ℕ → List ℕ → List ℕ → ℕ → Outcome
 readingAnswer set c1 c2 s bits =
-    refuse (ltb 12 set) 1 0
-    (refuse (not (allOf (readingShape (setOf set) (length c1) (length c2) (length s) bits))) 2 0
-    (refuseFirst (below (setOf set .q)) 0 0 (c1 ++ c2 ++ s) accepted))
+    refuse (noSet set) 1 0
+    (refuse (not (allOf (readingShape (setOf set) (length c1) (length c2) (length s) bits))) 2 0 (readingRange (setOf set .q) c1 c2 s))
 
 unfoldable pub readingLeft : ℕ → List ℕ → List ℕ → List ℕ → List ℕ → List ℕ
 readingLeft set c1 c2 s bits = leaves (readingAnswer set c1 c2 s (length bits)) (reading set (setOf set) c1 c2 s) bits

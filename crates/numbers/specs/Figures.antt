@@ -10,11 +10,11 @@ use Rattle.maths.specs.Product.{product, middleProduct}
 use Rattle.maths.specs.Transform.{transformAt, transform}
 use Rattle.maths.specs.Integer.{residue}
 use Rattle.maths.specs.Rounding.{floorBit}
-use Rattle.calls.specs.Region.{region}
+use Rattle.calls.specs.Region.{region, joined}
 use Rattle.sets.specs.declared.Parameters.{Parameters}
 use Rattle.sets.specs.Table.{none, table, setOf}
 use Rattle.sets.specs.Derived.{halfModulus}
-use Rattle.numbers.specs.Scheme.{key, sumOfProducts, firstPart, secondPart, opened, bitRead, reading}
+use Rattle.numbers.specs.Scheme.{keyPart, key, sumOfProducts, firstPart, sumOfMiddles, secondPart, opened, roundedBit, reading}
 
 bench : Parameters
 bench = setOf 0
@@ -47,7 +47,7 @@ c2 = secondPart bench b r message
 
 -- what bit 0 with a noise is read as
 readWith : ℤ → ℕ
-readWith z = bitRead 0 bench ((residue (bench .q) z + halfModulus bench * 0) % bench .q)
+readWith z = roundedBit 0 bench ((residue (bench .q) z + halfModulus bench * 0) % bench .q)
 
 -- figures 1 to 6, then 7 to 11: noise 3, −3, 4, −4, −5, 6, −6, 11, 12
 computed : List (List ℕ)
@@ -73,5 +73,7 @@ figures =
     (0 ∷ 0 ∷ 1 ∷ 0 ∷ 0 ∷ 1 ∷ 1 ∷ 1 ∷ 0 ∷ []) ∷ []
 
 bench-figures : computed ≡ figures
-unfolding bench a s e r message b c1 c2 readWith computed figures none table setOf halfModulus region tabulate sum product middleProduct transformAt transform residue floorBit key sumOfProducts firstPart secondPart opened bitRead reading
+unfolding bench a s e r message b c1 c2 readWith computed figures none table setOf halfModulus
+    region joined tabulate sum product middleProduct transformAt transform residue floorBit keyPart key sumOfProducts firstPart sumOfMiddles secondPart opened
+    roundedBit reading
 bench-figures = refl

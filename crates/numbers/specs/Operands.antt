@@ -6,7 +6,7 @@ use Prim.Native.Nat.{ℕ, _+_, _*_, _^_, _≤_, _<_}
 use lib.IntN.{ℤ, pos, natAbs}
 use lib.ListN.{length, getD}
 use Rattle.sets.specs.declared.Parameters.{Parameters}
-use Rattle.middle.specs.Operand.{Operand}
+use Rattle.middle.specs.Operand.{Below, Operand}
 
 -- what reading works on
 pub record ReadingOperands (p : Parameters) (c1 c2 s : List ℕ) : Type 0 where
@@ -14,12 +14,12 @@ pub record ReadingOperands (p : Parameters) (c1 c2 s : List ℕ) : Type 0 where
   pub secret : Operand s
   pub first-length : length c1 ≡ p .n + p .k
   pub second-length : length c2 ≡ p .d
-  pub second-residues : (k : ℕ) → k < length c2 → getD c2 k 0 < p .q
+  pub second-residues : Below (p .q) c2
 
 -- t vectors of n residues modulo q each, one after the other
 pub record Family (q n t : ℕ) (xs : List ℕ) : Type 0 where
   pub size : length xs ≡ t * n
-  pub each : (k : ℕ) → k < length xs → getD xs k 0 < q
+  pub each : Below q xs
 
 -- what key works on
 pub record KeyOperands (p : Parameters) (a s : List ℕ) (e : List ℤ) : Type 0 where
@@ -35,4 +35,4 @@ pub record SealingOperands (p : Parameters) (a b : List ℕ) (r : List ℤ) (m :
   pub multipliers-length : length r ≡ p .t * (p .k + 1)
   pub multipliers-small : (i : ℕ) → i < length r → natAbs (getD r i (pos 0)) < 2 ^ 24
   pub message-length : length m ≡ p .d
-  pub message-bits : (i : ℕ) → i < length m → getD m i 0 < 2
+  pub message-bits : Below 2 m

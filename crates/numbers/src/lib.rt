@@ -1,7 +1,5 @@
-// Key, sealing and reading on numbers (01, Arithmetic): open calls, each with its checks and its plain work.
-pub mod bits;
+// What the calls on numbers share (01, Arithmetic): multipliers in range, residues of whole numbers, sums of products.
+// The calls are `numbers_key::key`, `numbers_sealing::sealing` and `numbers_reading::reading`.
 pub mod counts;
-pub mod key;
-pub mod reading;
-pub mod sealing;
 pub mod signed;
+pub mod sums;

@@ -1,4 +1,4 @@
-// Whole numbers with a sign: errors and multipliers in range, and their residues (01, Key and Sealing).
+// Whole numbers with a sign: their size, multipliers in range, and their residues (01, Key and Sealing).
 use calls::Answer;
 use sets::Parameters;
 ghost use mathlib.Core.Path.{_≡_};
@@ -10,10 +10,10 @@ ghost use Rattle.calls.specs.Outcome.{outcome, accepted};
 ghost use Rattle.calls.specs.Checks.{passing, refuseFirst};
 ghost use Rattle.sets.specs.Rules.{Rules};
 ghost use Rattle.numbers.specs.Scheme as scheme;
-ghost use Rattle.numbers.specs.Calls.{isError, isMultiplier, multiplierBound};
+ghost use Rattle.numbers.specs.Calls.{isMultiplier, multiplierBound};
 
 // Whether `z` has size at most `limit`.
-fn size_within(z: i32, limit: u32) -> bool
+pub fn size_within(z: i32, limit: u32) -> bool
     requires { ⌜ limit < 2 ^ 24 ⌝ }
     ensures { λ r. ⌜ r ≡ leb (natAbs z) limit ⌝ }
 {
@@ -25,33 +25,6 @@ fn size_within(z: i32, limit: u32) -> bool
         return false;
     }
     true
-}
-
-// The index of the first number of size above `eta`, or the length where there is none.
-fn first_error(es: &[i32], eta: u32) -> usize
-    requires { ⌜ eta < 2 ^ 24 ⌝ }
-    ensures { λ r. ⌜ r ≡ passing (isError eta) 0 (now (es .entry)) ⌝ }
-{
-    let mut i: usize = 0;
-    while i < es.len() {
-        if !size_within(es[i], eta) {
-            return i;
-        }
-        i += 1;
-    }
-    i
-}
-
-// Refused at the first number of size above `eta`, its place counted from `offset`.
-pub fn errors_checked(es: &[i32], eta: u32, offset: usize) -> Answer
-    requires { ⌜ (eta < 2 ^ 24) × (offset + length (now es) ≤ 65536) ⌝ }
-    ensures { λ r. ⌜ outcome r ≡ refuseFirst (isError eta) 0 offset (now (es .entry)) accepted ⌝ }
-{
-    let i = first_error(es, eta);
-    if i < es.len() {
-        return Answer::Refused(3, (offset + i) as u32);
-    }
-    Answer::Done
 }
 
 // The largest size of a multiplier at a position.
@@ -106,7 +79,8 @@ pub fn multipliers_checked(p: Parameters, rs: &[i32], offset: usize) -> Answer
 
 // Writes the residue of each number.
 pub fn residues_of(zs: &[i32], q: u32, out: &mut [u32])
-    requires { ⌜ (0 < q) × (q < 2 ^ 24) × (length (now out) ≡ length (now zs)) × ((k : ℕ) → k < length (now zs) → natAbs (getD (now zs) k (pos 0)) < 2 ^ 24) ⌝ }
+    requires { ⌜ (0 < q) × (q < 2 ^ 24) × (length (now out) ≡ length (now zs))
+        × ((k : ℕ) → k < length (now zs) → natAbs (getD (now zs) k (pos 0)) < 2 ^ 24) ⌝ }
     ensures { λ _. ⌜ now (out .exit) ≡ scheme.residues q (now (zs .entry)) ⌝ }
 {
     let mut i: usize = 0;

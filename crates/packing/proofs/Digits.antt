@@ -3,7 +3,9 @@
 use mathlib.Core.Path.{_≡_, refl, sym, ap, ap₂, _∙_}
 use mathlib.Core.List.{List, [], _∷_}
 use Prim.Native.Nat.{ℕ, zero, suc, _+_, _-_, _*_, _/_, _%_, _^_, _≤_, _<_}
-use native.Mathlib.Nat.{mul-zero, mul-suc, pow-zero, div-one, zero-div, zero-mod, mul-add, mul-one, mul-assoc, add-assoc, add-comm, suc-add, mul-le-mul-left, lt-of-lt-of-le, div-div-eq-div-mul, add-mul-div-left, div-eq-of-lt, mod-eq-of-lt, mod-lt, add-mul-mod-self-left, mod-add-div, div-lt-iff-lt-mul}
+use native.Mathlib.Nat.{mul-zero, mul-suc, pow-zero, div-one, zero-div, zero-mod, mul-add, mul-one, mul-assoc, add-assoc, add-comm, suc-add, mul-le-mul-left}
+use native.Mathlib.Nat.{lt-of-lt-of-le, div-div-eq-div-mul, add-mul-div-left, div-eq-of-lt, mod-eq-of-lt, mod-lt, add-mul-mod-self-left, mod-add-div}
+use native.Mathlib.Nat.{div-lt-iff-lt-mul}
 use native.Mathlib.Decide.{decLt}
 use native.Mathlib.Numerals.{one-add}
 use native.Mathlib.Omega.{arith}
@@ -87,7 +89,8 @@ value-below bits (x ∷ xs) h =
     rw split (omega (arith, h 0))
 
 -- digits of one width, read again in digits of another and back
-repacked : (from to count : ℕ) (xs : List ℕ) → Digit from xs → from * length xs ≤ to * count → digits from (length xs) (value to (digits to count (value from xs))) ≡ xs
+repacked : (from to count : ℕ) (xs : List ℕ) → Digit from xs → from * length xs ≤ to * count
+    → digits from (length xs) (value to (digits to count (value from xs))) ≡ xs
 repacked from to count xs h fits =
     let small : value from xs < 2 ^ (to * count) = lt-of-lt-of-le (value-below from xs h) (pow-mono fits) in
     rw (value-digits to count (value from xs) small) (digits-value from xs h)
@@ -98,7 +101,8 @@ unfolding pack unpack
 unpack-pack width bytes xs h fits = repacked width 8 bytes xs h fits
 
 -- packing what was unpacked gives it back, where every bit was taken
-pub pack-unpack : (width count : ℕ) (bytes : List ℕ) → Digit 8 bytes → 8 * length bytes ≤ width * count → pack width (length bytes) (unpack width count bytes) ≡ bytes
+pub pack-unpack : (width count : ℕ) (bytes : List ℕ) → Digit 8 bytes → 8 * length bytes ≤ width * count
+    → pack width (length bytes) (unpack width count bytes) ≡ bytes
 unfolding pack unpack
 pack-unpack width count bytes h fits = repacked 8 width count bytes h fits
 
@@ -135,7 +139,8 @@ pub window-digit : (m bit k window rest : ℕ) → bit + k ≤ m → (window + 2
 window-digit m bit k window rest fits =
     let split : 2 ^ m ≡ 2 ^ bit * (2 ^ k * 2 ^ (m - (bit + k))) = rw (← pow-add 2 k (m - (bit + k)), ← pow-add) (ap (λ (n : ℕ). 2 ^ n) (omega arith)) in
     let grouped : 2 ^ m * rest ≡ 2 ^ bit * (2 ^ k * (2 ^ (m - (bit + k)) * rest)) = rw split (rw (mul-assoc, mul-assoc)) in
-    rw (grouped, add-mul-div-left window (2 ^ k * (2 ^ (m - (bit + k)) * rest)) (pow-pos bit)) (add-mul-mod-self-left (window / 2 ^ bit) (2 ^ k) (2 ^ (m - (bit + k)) * rest))
+    rw (grouped, add-mul-div-left window (2 ^ k * (2 ^ (m - (bit + k)) * rest)) (pow-pos bit))
+    (add-mul-mod-self-left (window / 2 ^ bit) (2 ^ k) (2 ^ (m - (bit + k)) * rest))
 
 -- a byte of packed numbers lies in two of them, where a number has 8 bits or more
 pub packed-byte : (width i bit j : ℕ) (xs : List ℕ) → Digit width xs → 8 ≤ width → bit < width → width * i + bit ≡ 8 * j

@@ -58,7 +58,8 @@ pub unpackDropped-packDropping : (width cmp bytes : ℕ) (xs : List ℕ) → cmp
 unfolding packDropping unpackDropped
 unpackDropped-packDropping width cmp bytes xs h digit fits =
     rw (← high-length cmp xs)
-    (ap (map (λ x. x * 2 ^ cmp)) (unpack-pack (width - cmp) bytes (highParts cmp xs) (high-digit width cmp xs h digit) (rw high-length fits)) ∙ high-back cmp xs)
+    (ap (map (λ x. x * 2 ^ cmp)) (unpack-pack (width - cmp) bytes (highParts cmp xs) (high-digit width cmp xs h digit) (rw high-length fits))
+    ∙ high-back cmp xs)
 
 -- packing that drops nothing
 pub packDropping-none : (width count : ℕ) (xs : List ℕ) → packDropping width 0 count xs ≡ pack width count xs

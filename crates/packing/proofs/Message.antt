@@ -79,7 +79,12 @@ module _ {bits : List ℕ} {from k byte : ℕ} (g : Gathered bits from k byte) w
       let longer : 8 - (k - 1) ≡ 1 + (8 - k) = omega arith in
       let double : 2 ^ (8 - (k - 1)) ≡ 2 * 2 ^ (8 - k) = rw longer (pow-add 2 1 (8 - k)) in
       let next : from + (k - 1) + 1 ≡ from + k = omega arith in
-      record { within = omega arith; small = rw double (omega arith); whole = value-at 1 (from + (k - 1)) bits ∙ rw (next, ← e, g .whole, double) (omega arith) }
+      record {
+        within = omega arith;
+        small = rw double (omega arith);
+        whole = value-at 1 (from + (k - 1)) bits
+            ∙ rw (next, ← e, g .whole, double) (omega arith);
+      }
 
   -- after the last turn
   pub gathered-all : k ≡ 0 → byte ≡ value 1 (drop from bits) % 2 ^ 8

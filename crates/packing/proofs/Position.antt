@@ -15,7 +15,8 @@ pub position-first : (from to : ℕ) → 0 < from → Position from to 0 0 0
 position-first from to h = record { place = omega (arith, mul-zero from, mul-zero to); low = h }
 
 -- the next digit begins `to` bits further, with n digits passed
-pub position-next : {from to i bit j i' bit' : ℕ} (n : ℕ) → Position from to i bit j → i' ≡ i + n → from * n + bit' ≡ bit + to → bit' < from → Position from to i' bit' (j + 1)
+pub position-next : {from to i bit j i' bit' : ℕ} (n : ℕ) → Position from to i bit j → i' ≡ i + n → from * n + bit' ≡ bit + to → bit' < from
+    → Position from to i' bit' (j + 1)
 position-next n p passed e h = record { place = rw passed (omega arith); low = h }
 
 -- numbers of 8 bits or more: no more are passed than bytes are written

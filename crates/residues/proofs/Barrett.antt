@@ -2,7 +2,8 @@
 -- Assumes nothing.
 use mathlib.Core.Path.{_≡_, sym, ap, _∙_}
 use Prim.Native.Nat.{ℕ, _+_, _-_, _*_, _/_, _%_, _^_, _≤_, _<_}
-use native.Mathlib.Nat.{add-mul-mod-self-right, mul-le-mul-left, mul-le-mul-right, div-mul-le-self, lt-div-mul-add, div-eq-of-lt-le, lt-of-mul-lt-mul-right, le-of-lt}
+use native.Mathlib.Nat.{add-mul-mod-self-right, mul-le-mul-left, mul-le-mul-right, div-mul-le-self, lt-div-mul-add, div-eq-of-lt-le, lt-of-mul-lt-mul-right}
+use native.Mathlib.Nat.{le-of-lt}
 use native.Mathlib.Omega.{arith}
 use Rattle.maths.specs.Congruence.{Mod}
 use Rattle.maths.proofs.Congruence.{mod-eq, mod-refl, mod-trans, mod-add, mod-mul}

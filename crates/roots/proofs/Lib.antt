@@ -1,3 +1,4 @@
 pub mod Roots
 pub mod Bench
 pub mod Laws
+pub mod LastSet

@@ -4,14 +4,14 @@
 use mathlib.Core.Path.{_≡_, refl}
 use mathlib.Core.Bool.{Bool, true, false, cond}
 use mathlib.Core.List.{List, [], _∷_}
-use Prim.Native.Nat.{ℕ, _<_}
+use Prim.Native.Nat.{ℕ}
 use lib.Dec.{eqb}
 use Rattle.maths.specs.Root.{RootOfOrder, firstOne, hasOrder}
 use Rattle.maths.proofs.PowerTable.{root-of-order}
 use Rattle.calls.specs.Checks.{allOf}
 use Rattle.calls.proofs.Checks.{Each}
 use Rattle.sets.specs.declared.Parameters.{Parameters}
-use Rattle.sets.specs.Table.{table, setOf}
+use Rattle.sets.specs.Table.{table, setOf, IsSet}
 use Rattle.sets.specs.Derived.{transformSize, transformRoot}
 use Rattle.sets.specs.Rules.{Rules}
 use Rattle.sets.proofs.Tested.{passed, at-each}
@@ -25,7 +25,7 @@ table-passed : passed tests table ≡ true
 unfolding passed allOf table hasOrder firstOne
 table-passed = refl
 
-module _ (set : ℕ) (low : set < 13) where
+module _ (set : ℕ) (low : IsSet set) where
   kept : Rules (setOf set)
   kept = rules set low
 
@@ -34,7 +34,8 @@ module _ (set : ℕ) (low : set < 13) where
   passes = at-each tests table table-passed set low
 
   -- the root of whichever size two tests pick
-  picked : (one two : Bool) → RootOfOrder (setOf set .q) (cond one (setOf set .d1) (cond two (setOf set .d2) (setOf set .d3))) (cond one (setOf set .w1) (cond two (setOf set .w2) (setOf set .w3)))
+  picked : (one two : Bool) → RootOfOrder (setOf set .q) (cond one (setOf set .d1) (cond two (setOf set .d2) (setOf set .d3)))
+      (cond one (setOf set .w1) (cond two (setOf set .w2) (setOf set .w3)))
   picked true two = root-of-order _ _ _ (kept .prime) (kept .divides1) (passes .0)
   picked false true = root-of-order _ _ _ (kept .prime) (kept .divides2) (passes .1 .0)
   picked false false = root-of-order _ _ _ (kept .prime) (kept .divides3) (passes .1 .1 .0)

@@ -1,42 +1,43 @@
 -- Laws of key, encrypt and decrypt called in turn: from what each promises to the answer, the slices and the claim of the whole.
 -- Assumes nothing.
 use mathlib.Core.Path.{_≡_, refl, sym, ap, _∙_}
-use mathlib.Core.Bool.{Bool, true, false}
-use mathlib.Core.List.{List, _++_}
+use mathlib.Core.List.{List}
 use Prim.Native.Nat.{ℕ}
 use native.Mathlib.Omega.{arith}
-use borrow.Author.Tests.{eqb-true}
 use lib.ListN.{length, replicate, length-replicate}
-use Rattle.calls.specs.Outcome.{Outcome, accepted, refused, leaves}
-use Rattle.calls.specs.Checks.{allOf}
+use Rattle.calls.specs.Outcome.{Outcome, accepted, refused, andThen, leaves}
 use Rattle.calls.proofs.Outcome.{accepted-refused, leaves-accepted, leaves-refused}
-use Rattle.calls.proofs.Checks.{allOf-each, both-hold}
 use Rattle.sets.specs.Table.{setOf}
 use Rattle.sets.specs.Derived.{isEncryption, ciphertextBytes}
 use Rattle.packing.specs.Digits.{Digit}
-use Rattle.scheme.specs.Encryption.{secretSeed, publicKey, ciphertext, readMessage}
+use Rattle.scheme.specs.Encryption.{secretSeed, publicKey, ciphertext, decryptedMessage}
 use Rattle.scheme.specs.Bits.{messageRead}
-use Rattle.scheme.specs.Answers.{refuseSet, keyLengths, encryptLengths, openingLengths, keyDraws}
-use Rattle.scheme.specs.Answers.{workLength, workLeft, encryptionKeyAnswer, encryptAnswer, decryptAnswer}
-use Rattle.scheme.proofs.Answers.{set-range, by-set, by-lengths, by-draws}
+use Rattle.scheme.specs.Answers.{keyChecks, encryptChecks, decryptChecks, keyDraws, workLength, workLeft}
+use Rattle.scheme.specs.Answers.{encryptionKeyAnswer, encryptionPublicLeft, encryptionSecretLeft, encryptionKeyWork}
+use Rattle.scheme.specs.Answers.{encryptAnswer, ciphertextLeft, encryptWork, decryptAnswer, messageLeft, decryptWork}
+use Rattle.scheme.proofs.Answers.{key-passed, encrypt-passed, decrypt-passed, by-checks}
 use Rattle.claim.specs.Claim.{encryption, Demand3}
 use Rattle.claim.proofs.Claim.{demand-3}
-use Rattle.round_trip.specs.Answers.{sealAndReadLengths, sealAndReadAnswer}
-use Rattle.round_trip.proofs.Then.{work-stays}
+use Rattle.round_trip.specs.Answers.{sealAndReadChecked, sealAndReadAnswer, sealAndReadWork}
+use Rattle.round_trip.proofs.Then.{work-stays, first-passed, second-passed, third-passed, whole-decided, first-decided}
 
 module _ (set : ℕ) (seed message sealing public secret sealed read work : List ℕ) where
-  -- the tests of key, of encrypt and of decrypt, and all of them
-  abbrev keyTests : List Bool
-  keyTests = keyLengths set (length seed) (length public) (length secret) (length work)
+  -- the checks of key, of encrypt and of decrypt, and all of them
+  abbrev keyFits : Outcome
+  keyFits = keyChecks isEncryption set (length seed) (length public) (length secret) (length work)
 
-  abbrev encryptTests : List Bool
-  encryptTests = encryptLengths set (length public) (length message) (length sealing) (length sealed) (length work)
+  abbrev encryptFits : Outcome
+  encryptFits = encryptChecks set (length public) (length message) (length sealing) (length sealed) (length work)
 
-  abbrev decryptTests : List Bool
-  decryptTests = openingLengths set (length secret) (length sealed) (length read) (length work)
+  abbrev decryptFits : Outcome
+  decryptFits = decryptChecks isEncryption set (length secret) (length sealed) (length read) (length work)
 
-  abbrev tests : List Bool
-  tests = sealAndReadLengths set (length seed) (length message) (length sealing) (length public) (length secret) (length sealed) (length read) (length work)
+  abbrev pub allFit : Outcome
+  allFit = andThen keyFits (andThen encryptFits decryptFits)
+
+  -- the answer of the whole
+  abbrev answer : Outcome
+  answer = sealAndReadAnswer set seed message sealing public secret sealed read work
 
   -- the ciphertext
   abbrev made : List ℕ
@@ -45,62 +46,59 @@ module _ (set : ℕ) (seed message sealing public secret sealed read work : List
   -- what the whole promises: the answer, the keys, the ciphertext, the message read, the work slice, the claim
   abbrev pub Promised : Outcome → List ℕ → List ℕ → List ℕ → List ℕ → List ℕ → Type 0
   Promised o public₁ secret₁ sealed₁ read₁ work₁ =
-      (o ≡ sealAndReadAnswer set seed tests)
+      (o ≡ answer)
       × ((public₁ ≡ leaves o (publicKey (setOf set) seed) public)
       × ((secret₁ ≡ leaves o (secretSeed (setOf set) seed) secret)
       × ((sealed₁ ≡ leaves o made sealed)
       × ((read₁ ≡ leaves o (messageRead (setOf set) seed message sealing) read)
-      × ((work₁ ≡ workLeft isEncryption set tests work)
+      × ((work₁ ≡ sealAndReadWork set seed message sealing public secret sealed read work)
       × (o ≡ accepted → Demand3 set (encryption seed message sealing)))))))
 
   -- nothing was written
-  untouched : {o : Outcome} {number place : ℕ} {work₁ : List ℕ} → o ≡ refused number place → (sealAndReadAnswer set seed tests ≡ refused number place) × (work₁ ≡ workLeft isEncryption set tests work)
+  untouched : {o : Outcome} {number place : ℕ} {work₁ : List ℕ} → o ≡ refused number place → (answer ≡ refused number place) × (work₁ ≡ workLeft allFit work)
       → Promised o public secret sealed read work₁
-  untouched e answered =
-      (e ∙ sym (answered .0), (sym (leaves-refused _ _ e), (sym (leaves-refused _ _ e), (sym (leaves-refused _ _ e), (sym (leaves-refused _ _ e), (answered .1, λ a. absurd (accepted-refused a e)))))))
+  unfolding sealAndReadWork sealAndReadChecked
+  untouched {o} e answered =
+      let kept : (new old : List ℕ) → old ≡ leaves o new old = λ new old. sym (leaves-refused new old e) in
+      (e ∙ sym (answered .0), (kept _ _, (kept _ _, (kept _ _, (kept _ _, (answered .1, λ a. absurd (accepted-refused a e)))))))
 
-  -- the set refuses
-  pub set-refuses : {o : Outcome} {number place : ℕ} → o ≡ refused number place → o ≡ refuseSet isEncryption set accepted → Promised o public secret sealed read work
-  unfolding sealAndReadAnswer
-  set-refuses e checked = untouched e (by-set isEncryption set tests (keyDraws (setOf set) seed) work (sym checked ∙ e))
+  -- the checks refuse
+  pub checks-refuse : {o : Outcome} {number place : ℕ} → o ≡ allFit → o ≡ refused number place → Promised o public secret sealed read work
+  unfolding sealAndReadAnswer sealAndReadChecked
+  checks-refuse e told = untouched told (by-checks (keyDraws (setOf set) seed) work (sym e ∙ told))
 
-  -- a length refuses
-  pub length-refuses : refuseSet isEncryption set accepted ≡ accepted → allOf tests ≡ false → Promised (refused 2 0) public secret sealed read work
-  unfolding sealAndReadAnswer
-  length-refuses passed short = untouched refl (by-lengths isEncryption set tests (keyDraws (setOf set) seed) work passed short)
+  module _ (passed : allFit ≡ accepted) where
+    -- the checks of each call pass
+    key-fits : keyFits ≡ accepted
+    key-fits = first-passed keyFits encryptFits decryptFits accepted work passed
 
-  module _ (passed : refuseSet isEncryption set accepted ≡ accepted) (fits : allOf tests ≡ true) where
-    -- the tests of each call hold
-    key-fits : allOf keyTests ≡ true
-    key-fits = both-hold keyTests (encryptTests ++ decryptTests) fits .0
+    encrypt-fits : encryptFits ≡ accepted
+    encrypt-fits = second-passed keyFits encryptFits decryptFits accepted work passed
 
-    encrypt-fits : allOf encryptTests ≡ true
-    encrypt-fits = both-hold encryptTests decryptTests (both-hold keyTests (encryptTests ++ decryptTests) fits .1) .0
-
-    decrypt-fits : allOf decryptTests ≡ true
-    decrypt-fits = both-hold encryptTests decryptTests (both-hold keyTests (encryptTests ++ decryptTests) fits .1) .1
+    decrypt-fits : decryptFits ≡ accepted
+    decrypt-fits = third-passed keyFits encryptFits decryptFits accepted work passed
 
     -- the draws of the key decide, and the work slice is cleared
-    whole-answers : (sealAndReadAnswer set seed tests ≡ keyDraws (setOf set) seed) × (replicate (length work) 0 ≡ workLeft isEncryption set tests work)
-    unfolding sealAndReadAnswer
-    whole-answers = by-draws isEncryption set tests (keyDraws (setOf set) seed) work passed fits refl
+    whole-answers : (answer ≡ keyDraws (setOf set) seed) × (replicate (length work) 0 ≡ workLeft allFit work)
+    unfolding sealAndReadAnswer sealAndReadChecked
+    whole-answers = whole-decided keyFits encryptFits decryptFits (keyDraws (setOf set) seed) work passed
 
     key-answers : (encryptionKeyAnswer set seed (length public) (length secret) (length work) ≡ keyDraws (setOf set) seed)
-        × (replicate (length work) 0 ≡ workLeft isEncryption set keyTests work)
+        × (replicate (length work) 0 ≡ workLeft keyFits work)
     unfolding encryptionKeyAnswer
-    key-answers = by-draws isEncryption set keyTests (keyDraws (setOf set) seed) work passed key-fits refl
+    key-answers = first-decided keyFits encryptFits decryptFits (keyDraws (setOf set) seed) work passed
 
     -- what key promises: its answer, the keys, the work slice
     abbrev pub KeyPromised : Outcome → List ℕ → List ℕ → List ℕ → Type 0
     KeyPromised o public₁ secret₁ work₁ =
-        let keyed = encryptionKeyAnswer set seed (length public) (length secret) (length work) in
-        (o ≡ keyed)
-        × ((public₁ ≡ leaves keyed (publicKey (setOf set) seed) public)
-        × ((secret₁ ≡ leaves keyed (secretSeed (setOf set) seed) secret) × (work₁ ≡ workLeft isEncryption set keyTests work)))
+        (o ≡ encryptionKeyAnswer set seed (length public) (length secret) (length work))
+        × ((public₁ ≡ encryptionPublicLeft set seed public secret work)
+        × ((secret₁ ≡ encryptionSecretLeft set seed public secret work) × (work₁ ≡ encryptionKeyWork set seed public secret work)))
 
     -- a draw of the key is refused
     pub key-refuses : {o : Outcome} {number place : ℕ} {public₁ secret₁ work₁ : List ℕ} → o ≡ refused number place → KeyPromised o public₁ secret₁ work₁
         → Promised o public₁ secret₁ sealed read work₁
+    unfolding encryptionPublicLeft encryptionSecretLeft encryptionKeyWork
     key-refuses {o} {number} {place} {public₁} {secret₁} e key =
         let keyed : encryptionKeyAnswer set seed (length public) (length secret) (length work) ≡ o = sym (key .0) in
         let public-kept : public₁ ≡ public = key .1 .0 ∙ leaves-refused _ _ (keyed ∙ e) in
@@ -116,31 +114,34 @@ module _ (set : ℕ) (seed message sealing public secret sealed read work : List
       -- no draw was refused, so that demand 3 holds
       pub holds : Demand3 set (encryption seed message sealing)
       holds =
-          let range = set-range isEncryption set passed in
-          let each = allOf-each encryptTests encrypt-fits in
-          demand-3 set (encryption seed message sealing) (omega (arith, range .1))
-          (range .2, eqb-true _ _ (allOf-each keyTests key-fits .0), eqb-true _ _ (each .1 .1 .0), eqb-true _ _ (each .1 .0), bytes)
+          let key = key-passed isEncryption set _ _ _ _ key-fits in
+          let encrypt = encrypt-passed set _ _ _ _ _ encrypt-fits in
+          demand-3 set (encryption seed message sealing) (omega (arith, key .0 .1))
+          (key .0 .2, key .1, encrypt .3, encrypt .2, bytes)
           (sym (key-answers .0) ∙ keyed)
 
       -- what key left
       public-is : public₁ ≡ publicKey (setOf set) seed
+      unfolding encryptionPublicLeft
       public-is = key .1 .0 ∙ leaves-accepted _ _ keyed
 
       secret-is : secret₁ ≡ secretSeed (setOf set) seed
+      unfolding encryptionSecretLeft
       secret-is = key .1 .1 .0 ∙ leaves-accepted _ _ keyed
 
       work-is : work₁ ≡ replicate (length work) 0
+      unfolding encryptionKeyWork
       work-is = key .1 .1 .1 ∙ sym (key-answers .1)
 
       -- the lengths of the work slice and of the ciphertext
       work-size : length work ≡ workLength (setOf set)
-      work-size = eqb-true _ _ (allOf-each keyTests key-fits .1 .1 .1 .0)
+      work-size = key-passed isEncryption set _ _ _ _ key-fits .4
 
       cleared-size : length {A = ℕ} (replicate (length work) 0) ≡ workLength (setOf set)
       cleared-size = length-replicate {A = ℕ} (length work) 0 ∙ work-size
 
       sealed-size : length sealed ≡ ciphertextBytes set
-      sealed-size = eqb-true _ _ (allOf-each encryptTests encrypt-fits .1 .1 .1 .0)
+      sealed-size = encrypt-passed set _ _ _ _ _ encrypt-fits .4
 
       -- encrypt is accepted
       abbrev encrypted : Outcome
@@ -152,18 +153,19 @@ module _ (set : ℕ) (seed message sealing public secret sealed read work : List
       -- what encrypt promises
       abbrev pub EncryptPromised : List ℕ → List ℕ → Type 0
       EncryptPromised sealed₁ work₂ =
-          (sealed₁ ≡ leaves encrypted (ciphertext (setOf set) public₁ message sealing) sealed)
-          × (work₂ ≡ workLeft isEncryption set (encryptLengths set (length public₁) (length message) (length sealing) (length sealed) (length work₁)) work₁)
+          (sealed₁ ≡ ciphertextLeft set public₁ message sealing sealed work₁) × (work₂ ≡ encryptWork set public₁ message sealing sealed work₁)
 
       module _ (sealed₁ work₂ : List ℕ) (sent : EncryptPromised sealed₁ work₂) where
         sealed-is : sealed₁ ≡ made
+        unfolding ciphertextLeft
         sealed-is = sent .0 ∙ leaves-accepted _ _ encrypt-accepts ∙ ap (λ (pk : List ℕ). ciphertext (setOf set) pk message sealing) public-is
 
         work₂-is : work₂ ≡ replicate (length work) 0
-        work₂-is = sent .1 ∙ ap (workLeft isEncryption set _) work-is ∙ work-stays isEncryption set _ (length work)
+        unfolding encryptWork
+        work₂-is = sent .1 ∙ ap (workLeft _) work-is ∙ work-stays _ (length work)
 
         read-size : length read ≡ 32
-        read-size = eqb-true _ _ (allOf-each decryptTests decrypt-fits .1 .1 .0)
+        read-size = decrypt-passed isEncryption set _ _ _ _ decrypt-fits .3
 
         -- decrypt is accepted
         abbrev decrypted : Outcome
@@ -175,21 +177,20 @@ module _ (set : ℕ) (seed message sealing public secret sealed read work : List
         -- what decrypt promises
         abbrev pub DecryptPromised : Outcome → List ℕ → List ℕ → Type 0
         DecryptPromised o read₁ work₃ =
-            (o ≡ decrypted)
-            × ((read₁ ≡ leaves decrypted (readMessage (setOf set) secret₁ sealed₁) read)
-            × (work₃ ≡ workLeft isEncryption set (openingLengths set (length secret₁) (length sealed₁) (length read) (length work₂)) work₂))
+            (o ≡ decrypted) × ((read₁ ≡ messageLeft set secret₁ sealed₁ read work₂) × (work₃ ≡ decryptWork set secret₁ sealed₁ read work₂))
 
         -- the message read is that of the definitions
-        read-is : readMessage (setOf set) secret₁ sealed₁ ≡ messageRead (setOf set) seed message sealing
+        read-is : decryptedMessage (setOf set) secret₁ sealed₁ ≡ messageRead (setOf set) seed message sealing
         unfolding messageRead
         read-is = rw (secret-is, sealed-is)
 
         -- all three calls are accepted
         pub all-accept : {o : Outcome} {read₁ work₃ : List ℕ} → DecryptPromised o read₁ work₃ → Promised o public₁ secret₁ sealed₁ read₁ work₃
+        unfolding sealAndReadWork sealAndReadChecked messageLeft decryptWork
         all-accept {o} {read₁} {work₃} opened =
             let done : o ≡ accepted = opened .0 ∙ decrypt-accepts in
-            let cleared : work₃ ≡ workLeft isEncryption set tests work =
-            opened .1 .1 ∙ ap (workLeft isEncryption set _) work₂-is ∙ work-stays isEncryption set _ (length work) ∙ whole-answers .1 in (
+            let cleared : work₃ ≡ workLeft allFit work =
+            opened .1 .1 ∙ ap (workLeft _) work₂-is ∙ work-stays _ (length work) ∙ whole-answers .1 in (
               done ∙ sym (whole-answers .0 ∙ sym (key-answers .0) ∙ keyed),
               (
                 public-is ∙ sym (leaves-accepted _ _ done),

@@ -1,64 +1,90 @@
--- What the functions answer that call key, sealing and reading one after the other (01, What demand 3 speaks of; How each call answers).
--- Every length is looked at before the first call, so that a refused one leaves every output as it was.
+-- What the functions answer and leave that call key, sealing and reading one after the other (01, What demand 3 speaks of; How each call answers).
+-- The checks of all three calls come before the first of them, so that a refused one leaves every output as it was.
 -- Assumes nothing.
 use mathlib.Core.Path.{_≡_, refl}
-use mathlib.Core.Bool.{Bool}
-use mathlib.Core.List.{List, [], _++_}
+use mathlib.Core.List.{List, []}
 use Prim.Native.Nat.{ℕ}
 use lib.ListN.{length}
-use Rattle.calls.specs.Outcome.{Outcome, refused}
-use Rattle.sets.specs.Table.{setOf}
+use Rattle.calls.specs.Outcome.{Outcome, refused, andThen, leaves}
+use Rattle.sets.specs.Table.{none, table, setOf}
 use Rattle.sets.specs.Derived.{isEncryption, isExchange}
-use Rattle.scheme.specs.Exchange.{innerSeed}
-use Rattle.scheme.specs.Answers.{refuseSet, refuseLengths, keyLengths, encryptLengths, encapsulateLengths, openingLengths, keyDraws, workLeft}
+use Rattle.scheme.specs.Encryption.{secretSeed, publicKey, ciphertext}
+use Rattle.scheme.specs.Exchange.{innerSeed, exchangePublicKey, exchangeSecretKey, encapsulated}
+use Rattle.scheme.specs.Answers.{refuseSet, checks, keyChecks, encryptChecks, encapsulateChecks, decryptChecks, keyDraws, workLeft}
+use Rattle.claim.specs.Claim.{encryption, exchange, held, given}
 
--- the lengths of seed, message, sealing seed, public key, secret key, ciphertext, message read and work slice: those of key, of encrypt and of decrypt
-abbrev pub sealAndReadLengths : ℕ → ℕ → ℕ → ℕ → ℕ → ℕ → ℕ → ℕ → ℕ → List Bool
-sealAndReadLengths set seed message sealing public secret sealed read work =
-    keyLengths set seed public secret work ++ encryptLengths set public message sealing sealed work ++ openingLengths set secret sealed read work
+-- the checks of key, of encrypt and of decrypt, by the lengths of seed, message, sealing seed, public key, secret key, ciphertext, message read, work slice
+abbrev pub sealAndReadChecks : (set seed message sealing public secret sealed read work : ℕ) → Outcome
+sealAndReadChecks set seed message sealing public secret sealed read work =
+    andThen (keyChecks isEncryption set seed public secret work)
+    (andThen (encryptChecks set public message sealing sealed work) (decryptChecks isEncryption set secret sealed read work))
 
--- after the set and the lengths only a draw of the key is refused: encrypt and decrypt accept what the call before them gave (`demand-3`)
-unfoldable pub sealAndReadAnswer : ℕ → List ℕ → List Bool → Outcome
-sealAndReadAnswer set seed lengths = refuseSet isEncryption set (refuseLengths lengths (keyDraws (setOf set) seed))
+-- the checks of key, of encapsulate and of decapsulate, by the lengths of seed, message, public key, secret key, ciphertext, both shared keys, work slice
+abbrev pub shareAKeyChecks : (set seed message public secret sealed sent received work : ℕ) → Outcome
+shareAKeyChecks set seed message public secret sealed sent received work =
+    andThen (keyChecks isExchange set seed public secret work)
+    (andThen (encapsulateChecks set public message sealed sent work) (decryptChecks isExchange set secret sealed received work))
 
--- the lengths of seed, message, public key, secret key, ciphertext, both shared keys and work slice: those of key, of encapsulate and of decapsulate
-abbrev pub shareAKeyLengths : ℕ → ℕ → ℕ → ℕ → ℕ → ℕ → ℕ → ℕ → ℕ → List Bool
-shareAKeyLengths set seed message public secret sealed sent received work =
-    keyLengths set seed public secret work ++ encapsulateLengths set public message sealed sent work ++ openingLengths set secret sealed received work
+-- the checks of all three calls on slices
+module _ (set : ℕ) (seed message sealing public secret sealed read work : List ℕ) where
+  unfoldable pub sealAndReadChecked : Outcome
+  sealAndReadChecked =
+      sealAndReadChecks set (length seed) (length message) (length sealing) (length public) (length secret) (length sealed) (length read) (length work)
 
--- after the set and the lengths only a draw of the inner key is refused
-unfoldable pub shareAKeyAnswer : ℕ → List ℕ → List Bool → Outcome
-shareAKeyAnswer set seed lengths = refuseSet isExchange set (refuseLengths lengths (keyDraws (setOf set) (innerSeed (setOf set) seed)))
+  -- after them only a draw of the key is refused: encrypt and decrypt accept what the call before them gave (`demand-3`)
+  unfoldable pub sealAndReadAnswer : Outcome
+  sealAndReadAnswer = andThen sealAndReadChecked (keyDraws (setOf set) seed)
 
--- the same from the slices as they are lent: the answer, and what is left in the work slice
-abbrev pub sealAndRead : ℕ → List ℕ → List ℕ → List ℕ → List ℕ → List ℕ → List ℕ → List ℕ → List ℕ → Outcome
-sealAndRead set seed message sealing public secret sealed read work =
-    sealAndReadAnswer set seed
-    (sealAndReadLengths set (length seed) (length message) (length sealing) (length public) (length secret) (length sealed) (length read) (length work))
+  -- what is left in the public key, the secret key, the ciphertext, the message read and the work slice
+  unfoldable pub sealAndReadPublic : List ℕ
+  sealAndReadPublic = leaves sealAndReadAnswer (publicKey (setOf set) seed) public
 
-abbrev pub sealAndReadWork : ℕ → List ℕ → List ℕ → List ℕ → List ℕ → List ℕ → List ℕ → List ℕ → List ℕ → List ℕ
-sealAndReadWork set seed message sealing public secret sealed read work =
-    workLeft isEncryption set
-    (sealAndReadLengths set (length seed) (length message) (length sealing) (length public) (length secret) (length sealed) (length read) (length work))
-    work
+  unfoldable pub sealAndReadSecret : List ℕ
+  sealAndReadSecret = leaves sealAndReadAnswer (secretSeed (setOf set) seed) secret
 
-abbrev pub shareAKey : ℕ → List ℕ → List ℕ → List ℕ → List ℕ → List ℕ → List ℕ → List ℕ → List ℕ → Outcome
-shareAKey set seed message public secret sealed sent received work =
-    shareAKeyAnswer set seed
-    (shareAKeyLengths set (length seed) (length message) (length public) (length secret) (length sealed) (length sent) (length received) (length work))
+  unfoldable pub sealAndReadCiphertext : List ℕ
+  sealAndReadCiphertext = leaves sealAndReadAnswer (ciphertext (setOf set) (publicKey (setOf set) seed) message sealing) sealed
 
-abbrev pub shareAKeyWork : ℕ → List ℕ → List ℕ → List ℕ → List ℕ → List ℕ → List ℕ → List ℕ → List ℕ → List ℕ
-shareAKeyWork set seed message public secret sealed sent received work =
-    workLeft isExchange set
-    (shareAKeyLengths set (length seed) (length message) (length public) (length secret) (length sealed) (length sent) (length received) (length work))
-    work
+  unfoldable pub sealAndReadMessage : List ℕ
+  sealAndReadMessage = leaves sealAndReadAnswer (given set (encryption seed message sealing)) read
+
+  unfoldable pub sealAndReadWork : List ℕ
+  sealAndReadWork = workLeft sealAndReadChecked work
+
+module _ (set : ℕ) (seed message public secret sealed sent received work : List ℕ) where
+  unfoldable pub shareAKeyChecked : Outcome
+  shareAKeyChecked =
+      shareAKeyChecks set (length seed) (length message) (length public) (length secret) (length sealed) (length sent) (length received) (length work)
+
+  -- after them only a draw of the inner key is refused
+  unfoldable pub shareAKeyAnswer : Outcome
+  shareAKeyAnswer = andThen shareAKeyChecked (keyDraws (setOf set) (innerSeed (setOf set) seed))
+
+  -- what is left in the public key, the secret key, the ciphertext, the shared key sent, the one received and the work slice
+  unfoldable pub shareAKeyPublic : List ℕ
+  shareAKeyPublic = leaves shareAKeyAnswer (exchangePublicKey (setOf set) seed) public
+
+  unfoldable pub shareAKeySecret : List ℕ
+  shareAKeySecret = leaves shareAKeyAnswer (exchangeSecretKey (setOf set) seed) secret
+
+  unfoldable pub shareAKeyCiphertext : List ℕ
+  shareAKeyCiphertext = leaves shareAKeyAnswer (encapsulated (setOf set) (exchangePublicKey (setOf set) seed) message) sealed
+
+  unfoldable pub shareAKeySent : List ℕ
+  shareAKeySent = leaves shareAKeyAnswer (held set (exchange seed message)) sent
+
+  unfoldable pub shareAKeyReceived : List ℕ
+  shareAKeyReceived = leaves shareAKeyAnswer (given set (exchange seed message)) received
+
+  unfoldable pub shareAKeyWork : List ℕ
+  shareAKeyWork = workLeft shareAKeyChecked work
 
 -- a set of the key exchange is refused with 8, before any length is looked at
-sealAndReadAnswer-example : sealAndReadAnswer 7 [] (sealAndReadLengths 7 0 0 0 0 0 0 0 0) ≡ refused 8 0
-unfolding isEncryption refuseSet sealAndReadAnswer
+sealAndReadAnswer-example : sealAndReadAnswer 7 [] [] [] [] [] [] [] [] ≡ refused 8 0
+unfolding none table setOf isEncryption refuseSet checks keyChecks sealAndReadChecked sealAndReadAnswer
 sealAndReadAnswer-example = refl
 
 -- a set of the encryption scheme is refused with 8 by the key exchange
-shareAKeyAnswer-example : shareAKeyAnswer 6 [] (shareAKeyLengths 6 0 0 0 0 0 0 0 0) ≡ refused 8 0
-unfolding isExchange refuseSet shareAKeyAnswer
+shareAKeyAnswer-example : shareAKeyAnswer 6 [] [] [] [] [] [] [] [] ≡ refused 8 0
+unfolding none table setOf isExchange refuseSet checks keyChecks shareAKeyChecked shareAKeyAnswer
 shareAKeyAnswer-example = refl

@@ -1,16 +1,14 @@
 // Key, encrypt and decrypt of the encryption scheme in turn, for sets 1 to 6.
 use calls::Answer;
 ghost use mathlib.Core.Path.{_≡_};
-ghost use Prim.Native.Nat.{_<_};
 ghost use Rattle.calls.specs.Outcome.{outcome, accepted, leaves};
-ghost use Rattle.calls.specs.Checks.{allOf};
 ghost use Rattle.sets.specs.Table.{setOf};
 ghost use Rattle.scheme.specs.Encryption.{secretSeed, publicKey, ciphertext};
 ghost use Rattle.claim.specs.Claim.{encryption, given, Demand3};
-ghost use Rattle.round_trip.specs.Answers.{sealAndReadLengths, sealAndRead, sealAndReadWork};
+ghost use Rattle.round_trip.specs.Answers.{sealAndReadChecks, sealAndReadAnswer, sealAndReadWork};
 
-// Whether all slices have the set's lengths.
-fn fits(
+// The checks of key, encrypt and decrypt, one after the other.
+fn checked(
     set: usize,
     seed: usize,
     message: usize,
@@ -20,17 +18,19 @@ fn fits(
     sealed: usize,
     read: usize,
     work: usize,
-) -> bool
-    requires { ⌜ set < 13 ⌝ }
-    ensures { λ r. ⌜ r ≡ allOf (sealAndReadLengths set seed message sealing public secret sealed read work) ⌝ }
+) -> Answer
+    ensures { λ r. ⌜ outcome r ≡ sealAndReadChecks set seed message sealing public secret sealed read work ⌝ }
 {
-    if !encryption::key_fits(set, seed, public, secret, work) {
-        return false;
-    }
-    if !encryption::encrypt_fits(set, public, message, sealing, sealed, work) {
-        return false;
-    }
-    encryption::decrypt_fits(set, secret, sealed, read, work)
+    let number = sets::ENCRYPTION;
+    let keyed = scheme_checks::key_checked(number, set, seed, public, secret, work);
+    let Answer::Done = keyed else {
+        return keyed;
+    };
+    let encrypted = scheme_checks::encrypt_checked(set, public, message, sealing, sealed, work);
+    let Answer::Done = encrypted else {
+        return encrypted;
+    };
+    scheme_checks::decrypt_checked(number, set, secret, sealed, read, work)
 }
 
 // The keys of a seed, the ciphertext of the message under the public key so given, and the message read from both with the secret key so given.
@@ -46,7 +46,7 @@ pub fn seal_and_read(
     read: &mut [u8],
     work: &mut [u32],
 ) -> Answer
-    ensures answer { λ r. ⌜ outcome r ≡ sealAndRead set (now (seed .entry)) (now (message .entry)) (now (sealing .entry))
+    ensures answer { λ r. ⌜ outcome r ≡ sealAndReadAnswer set (now (seed .entry)) (now (message .entry)) (now (sealing .entry))
         (now (public .entry)) (now (secret .entry)) (now (sealed .entry)) (now (read .entry)) (now (work .entry)) ⌝ }
     ensures given { λ r. ⌜ now (public .exit) ≡ leaves (outcome r) (publicKey (setOf set) (now (seed .entry))) (now (public .entry)) ⌝ }
     ensures kept { λ r. ⌜ now (secret .exit) ≡ leaves (outcome r) (secretSeed (setOf set) (now (seed .entry))) (now (secret .entry)) ⌝ }
@@ -58,11 +58,7 @@ pub fn seal_and_read(
         (now (public .entry)) (now (secret .entry)) (now (sealed .entry)) (now (read .entry)) (now (work .entry)) ⌝ }
     ensures claim { λ r. ⌜ (outcome r ≡ accepted → Demand3 set (encryption (now (seed .entry)) (now (message .entry)) (now (sealing .entry)))) ⌝ }
 {
-    let checked = encryption::set_checked(set);
-    let Answer::Done = checked else {
-        return checked;
-    };
-    if !fits(
+    let checked = checked(
         set,
         seed.len(),
         message.len(),
@@ -72,9 +68,10 @@ pub fn seal_and_read(
         sealed.len(),
         read.len(),
         work.len(),
-    ) {
-        return Answer::Refused(2, 0);
-    }
+    );
+    let Answer::Done = checked else {
+        return checked;
+    };
     let made = encryption::key(set, seed, public, secret, work);
     let Answer::Done = made else {
         return made;

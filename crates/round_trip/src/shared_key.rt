@@ -1,16 +1,14 @@
 // Key, encapsulate and decapsulate of the key exchange in turn, for sets 7 to 12.
 use calls::Answer;
 ghost use mathlib.Core.Path.{_≡_};
-ghost use Prim.Native.Nat.{_<_};
 ghost use Rattle.calls.specs.Outcome.{outcome, accepted, leaves};
-ghost use Rattle.calls.specs.Checks.{allOf};
 ghost use Rattle.sets.specs.Table.{setOf};
 ghost use Rattle.scheme.specs.Exchange.{exchangePublicKey, exchangeSecretKey, encapsulated};
 ghost use Rattle.claim.specs.Claim.{exchange, held, given, Demand3};
-ghost use Rattle.round_trip.specs.Answers.{shareAKeyLengths, shareAKey, shareAKeyWork};
+ghost use Rattle.round_trip.specs.Answers.{shareAKeyChecks, shareAKeyAnswer, shareAKeyWork};
 
-// Whether all slices have the set's lengths.
-fn fits(
+// The checks of key, encapsulate and decapsulate, one after the other.
+fn checked(
     set: usize,
     seed: usize,
     message: usize,
@@ -20,17 +18,19 @@ fn fits(
     sent: usize,
     received: usize,
     work: usize,
-) -> bool
-    requires { ⌜ set < 13 ⌝ }
-    ensures { λ r. ⌜ r ≡ allOf (shareAKeyLengths set seed message public secret sealed sent received work) ⌝ }
+) -> Answer
+    ensures { λ r. ⌜ outcome r ≡ shareAKeyChecks set seed message public secret sealed sent received work ⌝ }
 {
-    if !exchange::key_fits(set, seed, public, secret, work) {
-        return false;
-    }
-    if !exchange::encapsulate_fits(set, public, message, sealed, sent, work) {
-        return false;
-    }
-    exchange::decapsulate_fits(set, secret, sealed, received, work)
+    let number = sets::EXCHANGE;
+    let keyed = scheme_checks::key_checked(number, set, seed, public, secret, work);
+    let Answer::Done = keyed else {
+        return keyed;
+    };
+    let encapsulated = scheme_checks::encapsulate_checked(set, public, message, sealed, sent, work);
+    let Answer::Done = encapsulated else {
+        return encapsulated;
+    };
+    scheme_checks::decrypt_checked(number, set, secret, sealed, received, work)
 }
 
 // The keys of a seed, the ciphertext and the shared key of the message under the public key so given, and the shared key of that ciphertext with the
@@ -48,23 +48,20 @@ pub fn share_a_key(
     received: &mut [u8],
     work: &mut [u32],
 ) -> Answer
-    ensures answer { λ r. ⌜ outcome r ≡ shareAKey set (now (seed .entry)) (now (message .entry))
+    ensures answer { λ r. ⌜ outcome r ≡ shareAKeyAnswer set (now (seed .entry)) (now (message .entry))
         (now (public .entry)) (now (secret .entry)) (now (sealed .entry)) (now (sent .entry)) (now (received .entry)) (now (work .entry)) ⌝ }
     ensures given { λ r. ⌜ now (public .exit) ≡ leaves (outcome r) (exchangePublicKey (setOf set) (now (seed .entry))) (now (public .entry)) ⌝ }
     ensures kept { λ r. ⌜ now (secret .exit) ≡ leaves (outcome r) (exchangeSecretKey (setOf set) (now (seed .entry))) (now (secret .entry)) ⌝ }
     ensures closed { λ r. ⌜ now (sealed .exit) ≡ leaves (outcome r)
         (encapsulated (setOf set) (exchangePublicKey (setOf set) (now (seed .entry))) (now (message .entry))) (now (sealed .entry)) ⌝ }
     ensures agreed { λ r. ⌜ now (sent .exit) ≡ leaves (outcome r) (held set (exchange (now (seed .entry)) (now (message .entry)))) (now (sent .entry)) ⌝ }
-    ensures opened { λ r. ⌜ now (received .exit) ≡ leaves (outcome r) (given set (exchange (now (seed .entry)) (now (message .entry)))) (now (received .entry)) ⌝ }
+    ensures opened { λ r. ⌜ now (received .exit) ≡ leaves (outcome r) (given set (exchange (now (seed .entry)) (now (message .entry)))) (now (received .entry))
+        ⌝ }
     ensures cleared { λ _. ⌜ now (work .exit) ≡ shareAKeyWork set (now (seed .entry)) (now (message .entry))
         (now (public .entry)) (now (secret .entry)) (now (sealed .entry)) (now (sent .entry)) (now (received .entry)) (now (work .entry)) ⌝ }
     ensures claim { λ r. ⌜ (outcome r ≡ accepted → Demand3 set (exchange (now (seed .entry)) (now (message .entry)))) ⌝ }
 {
-    let checked = exchange::set_checked(set);
-    let Answer::Done = checked else {
-        return checked;
-    };
-    if !fits(
+    let checked = checked(
         set,
         seed.len(),
         message.len(),
@@ -74,9 +71,10 @@ pub fn share_a_key(
         sent.len(),
         received.len(),
         work.len(),
-    ) {
-        return Answer::Refused(2, 0);
-    }
+    );
+    let Answer::Done = checked else {
+        return checked;
+    };
     let made = exchange::key(set, seed, public, secret, work);
     let Answer::Done = made else {
         return made;

@@ -6,7 +6,7 @@ ghost use Prim.Native.Nat.{_≤_};
 
 // The numbers of a set; past the last set, those of set 0.
 fn parameters(set: usize) -> Parameters {
-    if 12 < set {
+    if sets::LAST < set {
         return sets::parameters_of(0);
     }
     sets::parameters_of(set)
@@ -29,7 +29,7 @@ fn case(set: usize, a: usize, b: usize, results: usize) {
 }
 
 // A plain middle product; the checksum covers the numbers past the results too, which stay as they were.
-fn plain_through(set: usize, a: &[u32], b: &[u32], out: &mut [u32], results: usize) {
+fn plain_with_buffers(set: usize, a: &[u32], b: &[u32], out: &mut [u32], results: usize) {
     let answer = middle::middle_product(set, a, b, report::numbers_mut(out, 0, results));
     report::text(b"plain");
     case(set, a.len(), b.len(), results);
@@ -41,7 +41,7 @@ fn plain_through(set: usize, a: &[u32], b: &[u32], out: &mut [u32], results: usi
 // The same into numbers of its own.
 fn plain(set: usize, a: &[u32], b: &[u32], results: usize) {
     let mut out = [7u32; 4097];
-    plain_through(set, a, b, &mut out, results);
+    plain_with_buffers(set, a, b, &mut out, results);
 }
 
 // Prints the answer of a transformed middle product and the checksums of its results and of the work slice.
@@ -63,7 +63,7 @@ fn multiply(
     work: &mut [u32],
     lent: usize,
 ) -> Answer {
-    transformed_middle::middle_product(
+    ntt_middle::middle_product(
         set,
         a,
         b,

@@ -2,14 +2,14 @@
 ghost use mathlib.Core.Path.{_≡_};
 ghost use Prim.Native.Nat.{_≤_, _<_};
 ghost use lib.ListN.{length};
-ghost use Rattle.sets.specs.Table.{setOf};
+ghost use Rattle.sets.specs.Table.{setOf, IsSet};
 ghost use Rattle.sets.specs.Derived.{transformSize, rootPowers};
-ghost use Rattle.transformed.specs.Stored.{inversePowers};
-ghost use Rattle.transformed.specs.Placed.{Placed};
+ghost use Rattle.ntt_products.specs.Stored.{inversePowers};
+ghost use Rattle.ntt_products.specs.Placed.{Placed};
 
 // The modulus of a set.
 fn modulus_of(set: usize) -> u32
-    requires { ⌜ set < 13 ⌝ }
+    requires { ⌜ IsSet set ⌝ }
     ensures { λ r. ⌜ (r ≡ setOf set .q) × (0 < r) ⌝ }
 {
     let p = sets::parameters_of(set);
@@ -18,15 +18,15 @@ fn modulus_of(set: usize) -> u32
 
 // The size of transform number i.
 fn size_of(set: usize, i: usize) -> usize
-    requires { ⌜ set < 13 ⌝ }
+    requires { ⌜ IsSet set ⌝ }
     ensures { λ r. ⌜ (r ≡ transformSize (setOf set) i) × (2 ≤ r) × (r ≤ 3328) ⌝ }
 {
-    transformed::size_of(set, i)
+    ntt_products::size_of(set, i)
 }
 
 // Fills a vector of transform number i with residues.
 fn fill(set: usize, i: usize, start: u64, n: usize, x: &mut [u32])
-    requires { ⌜ (set < 13) × (start < 1000) × (n ≤ transformSize (setOf set) i) × (length (now x) ≡ transformSize (setOf set) i) ⌝ }
+    requires { ⌜ IsSet set × (start < 1000) × (n ≤ transformSize (setOf set) i) × (length (now x) ≡ transformSize (setOf set) i) ⌝ }
     ensures { λ _. ⌜ Placed (setOf set) i n (now (x .exit)) ⌝ }
 {
     report::fill_residues(x, start, modulus_of(set));
@@ -34,41 +34,42 @@ fn fill(set: usize, i: usize, start: u64, n: usize, x: &mut [u32])
 
 // Sends the first `n` numbers with the root, and prints the checksum.
 fn send(set: usize, i: usize, n: usize, powers: &[u32], x: &mut [u32])
-    requires { ⌜ (set < 13) × (now powers ≡ rootPowers (setOf set) i) × Placed (setOf set) i n (now x) ⌝ }
+    requires { ⌜ IsSet set × (now powers ≡ rootPowers (setOf set) i) × Placed (setOf set) i n (now x) ⌝ }
     ensures { λ _. ⌜ Placed (setOf set) i (transformSize (setOf set) i) (now (x .exit)) ⌝ }
 {
-    transformed::send_first(set, i, powers, x, n);
+    ntt_products::send_first(set, i, powers, x, n);
     report::number_sum(x);
 }
 
 // The same with the inverse of the root.
 fn send_inverse(set: usize, i: usize, n: usize, inverse: &[u32], x: &mut [u32])
-    requires { ⌜ (set < 13) × (now inverse ≡ inversePowers (setOf set) i) × Placed (setOf set) i n (now x) ⌝ }
+    requires { ⌜ IsSet set × (now inverse ≡ inversePowers (setOf set) i) × Placed (setOf set) i n (now x) ⌝ }
     ensures { λ _. ⌜ Placed (setOf set) i (transformSize (setOf set) i) (now (x .exit)) ⌝ }
 {
-    transformed::send_first_inverse(set, i, inverse, x, n);
+    ntt_products::send_first_inverse(set, i, inverse, x, n);
     report::number_sum(x);
 }
 
 // Recovers a vector that was sent with the inverse of the root, and prints the checksum.
 fn recover(set: usize, i: usize, powers: &[u32], x: &mut [u32])
-    requires { ⌜ (set < 13) × (now powers ≡ rootPowers (setOf set) i) × Placed (setOf set) i (transformSize (setOf set) i) (now x) ⌝ }
+    requires { ⌜ IsSet set × (now powers ≡ rootPowers (setOf set) i) × Placed (setOf set) i (transformSize (setOf set) i) (now x) ⌝ }
 {
-    transformed::recover_all(set, i, powers, x);
+    ntt_products::recover_all_inverse(set, i, powers, x);
     report::number_sum(x);
 }
 
 // The same of a vector that was sent with the root.
 fn recover_inverse(set: usize, i: usize, inverse: &[u32], x: &mut [u32])
-    requires { ⌜ (set < 13) × (now inverse ≡ inversePowers (setOf set) i) × Placed (setOf set) i (transformSize (setOf set) i) (now x) ⌝ }
+    requires { ⌜ IsSet set × (now inverse ≡ inversePowers (setOf set) i) × Placed (setOf set) i (transformSize (setOf set) i) (now x) ⌝ }
 {
-    transformed::recover_all_inverse(set, i, inverse, x);
+    ntt_products::recover_all(set, i, inverse, x);
     report::number_sum(x);
 }
 
 // Forth with the root, back with its inverse.
 fn forth(set: usize, i: usize, n: usize, powers: &[u32], inverse: &[u32], x: &mut [u32])
-    requires { ⌜ (set < 13) × (n ≤ transformSize (setOf set) i) × (now powers ≡ rootPowers (setOf set) i) × (now inverse ≡ inversePowers (setOf set) i) × (length (now x) ≡ transformSize (setOf set) i) ⌝ }
+    requires { ⌜ IsSet set × (n ≤ transformSize (setOf set) i) × (now powers ≡ rootPowers (setOf set) i) × (now inverse ≡ inversePowers (setOf set) i)
+        × (length (now x) ≡ transformSize (setOf set) i) ⌝ }
 {
     fill(set, i, 1, n, x);
     send(set, i, n, powers, x);
@@ -77,7 +78,8 @@ fn forth(set: usize, i: usize, n: usize, powers: &[u32], inverse: &[u32], x: &mu
 
 // Forth with the inverse of the root, back with the root.
 fn forth_inverse(set: usize, i: usize, n: usize, powers: &[u32], inverse: &[u32], x: &mut [u32])
-    requires { ⌜ (set < 13) × (n ≤ transformSize (setOf set) i) × (now powers ≡ rootPowers (setOf set) i) × (now inverse ≡ inversePowers (setOf set) i) × (length (now x) ≡ transformSize (setOf set) i) ⌝ }
+    requires { ⌜ IsSet set × (n ≤ transformSize (setOf set) i) × (now powers ≡ rootPowers (setOf set) i) × (now inverse ≡ inversePowers (setOf set) i)
+        × (length (now x) ≡ transformSize (setOf set) i) ⌝ }
 {
     fill(set, i, 2, n, x);
     send_inverse(set, i, n, inverse, x);
@@ -97,15 +99,17 @@ fn settled(size: usize, n: usize) -> usize {
 
 // Correlates the first `n` numbers of a vector with a stored one, and prints the checksum of the places that this settles.
 fn correlate(set: usize, i: usize, n: usize, powers: &[u32], x: &mut [u32], stored: &[u32])
-    requires { ⌜ (set < 13) × (0 < n) × (now powers ≡ rootPowers (setOf set) i) × Placed (setOf set) i n (now x) × Placed (setOf set) i (transformSize (setOf set) i) (now stored) ⌝ }
+    requires { ⌜ IsSet set × (0 < n) × (now powers ≡ rootPowers (setOf set) i) × Placed (setOf set) i n (now x)
+        × Placed (setOf set) i (transformSize (setOf set) i) (now stored) ⌝ }
 {
-    transformed::correlate(set, i, powers, x, n, stored);
+    ntt_products::correlate(set, i, powers, x, n, stored);
     report::number_sum(report::numbers(x, 0, settled(stored.len(), n)));
 }
 
 // The same with vectors of residues.
 fn correlation(set: usize, i: usize, n: usize, powers: &[u32], x: &mut [u32], stored: &mut [u32])
-    requires { ⌜ (set < 13) × (0 < n) × (n ≤ transformSize (setOf set) i) × (now powers ≡ rootPowers (setOf set) i) × (length (now x) ≡ transformSize (setOf set) i) × (length (now stored) ≡ transformSize (setOf set) i) ⌝ }
+    requires { ⌜ IsSet set × (0 < n) × (n ≤ transformSize (setOf set) i) × (now powers ≡ rootPowers (setOf set) i)
+        × (length (now x) ≡ transformSize (setOf set) i) × (length (now stored) ≡ transformSize (setOf set) i) ⌝ }
 {
     let size = stored.len();
     fill(set, i, 3, n, x);
@@ -123,7 +127,8 @@ fn case(
     x: &mut [u32],
     stored: &mut [u32],
 )
-    requires { ⌜ (set < 13) × (0 < n) × (n ≤ transformSize (setOf set) i) × (now powers ≡ rootPowers (setOf set) i) × (now inverse ≡ inversePowers (setOf set) i) × (length (now x) ≡ transformSize (setOf set) i) × (length (now stored) ≡ transformSize (setOf set) i) ⌝ }
+    requires { ⌜ IsSet set × (0 < n) × (n ≤ transformSize (setOf set) i) × (now powers ≡ rootPowers (setOf set) i) × (now inverse ≡ inversePowers (setOf set) i)
+        × (length (now x) ≡ transformSize (setOf set) i) × (length (now stored) ≡ transformSize (setOf set) i) ⌝ }
 {
     forth(set, i, n, powers, inverse, x);
     forth_inverse(set, i, n, powers, inverse, x);
@@ -140,16 +145,18 @@ fn loaded(
     x: &mut [u32],
     stored: &mut [u32],
 )
-    requires { ⌜ (set < 13) × (0 < n) × (n ≤ transformSize (setOf set) i) × (length (now powers) ≡ transformSize (setOf set) i) × (length (now inverse) ≡ transformSize (setOf set) i) × (length (now x) ≡ transformSize (setOf set) i) × (length (now stored) ≡ transformSize (setOf set) i) ⌝ }
+    requires { ⌜ IsSet set × (0 < n) × (n ≤ transformSize (setOf set) i) × (length (now powers) ≡ transformSize (setOf set) i)
+        × (length (now inverse) ≡ transformSize (setOf set) i) × (length (now x) ≡ transformSize (setOf set) i)
+        × (length (now stored) ≡ transformSize (setOf set) i) ⌝ }
 {
     roots::load_powers(set, i, powers);
-    transformed::load_inverse_powers(set, i, inverse);
+    ntt_products::load_inverse_powers(set, i, inverse);
     case(set, i, n, powers, inverse, x, stored);
 }
 
 // The same in vectors of its own.
 fn part(set: usize, i: usize, n: usize, size: usize)
-    requires { ⌜ (set < 13) × (size ≡ transformSize (setOf set) i) × (0 < n) × (n ≤ size) × (size ≤ 3328) ⌝ }
+    requires { ⌜ IsSet set × (size ≡ transformSize (setOf set) i) × (0 < n) × (n ≤ size) × (size ≤ 3328) ⌝ }
 {
     let mut powers = [0u32; 3328];
     let mut inverse = [0u32; 3328];
@@ -168,7 +175,7 @@ fn part(set: usize, i: usize, n: usize, size: usize)
 
 // The same after the numbers of the case.
 fn line(set: usize, i: usize, n: usize, size: usize)
-    requires { ⌜ (set < 13) × (size ≡ transformSize (setOf set) i) × (0 < n) × (n ≤ size) × (size ≤ 3328) ⌝ }
+    requires { ⌜ IsSet set × (size ≡ transformSize (setOf set) i) × (0 < n) × (n ≤ size) × (size ≤ 3328) ⌝ }
 {
     report::text(b"transform");
     report::number(set as u64);
@@ -180,7 +187,7 @@ fn line(set: usize, i: usize, n: usize, size: usize)
 
 // A whole vector and half of one.
 fn transform(set: usize, i: usize)
-    requires { ⌜ set < 13 ⌝ }
+    requires { ⌜ IsSet set ⌝ }
 {
     let size = size_of(set, i);
     line(set, i, size, size);
@@ -190,7 +197,7 @@ fn transform(set: usize, i: usize)
 // The three transforms of every set.
 pub fn run() {
     let mut set: usize = 0;
-    while set < 13 {
+    while set <= sets::LAST {
         transform(set, 1);
         transform(set, 2);
         transform(set, 3);

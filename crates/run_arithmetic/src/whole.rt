@@ -160,7 +160,7 @@ fn message_bits(set: usize, wrong: usize) -> [u32; 257] {
 
 // Whether a set has the bounds of set 0.
 fn is_bench(set: usize) -> bool {
-    set == 0 || 12 < set
+    set == 0 || sets::LAST < set
 }
 
 // The numbers that errors of a set repeat.
@@ -242,7 +242,7 @@ fn left(answer: Answer, values: &[u32]) {
 }
 
 // Key on numbers in slices of these lengths.
-fn key_through(
+fn key_with_buffers(
     set: usize,
     lengths: [usize; 4],
     a: &[u32],
@@ -250,7 +250,7 @@ fn key_through(
     e: &[i32],
     b: &mut [u32],
 ) -> Answer {
-    numbers::key::key(
+    numbers_key::key(
         set,
         report::numbers(a, 0, lengths[0]),
         report::numbers(s, 0, lengths[1]),
@@ -273,7 +273,7 @@ fn key_lengths(row: Row, change: usize) -> [usize; 4] {
 fn key_of(row: Row, change: usize, a: &[u32], s: &[u32], e: &[i32]) -> [u32; 10233] {
     let mut b = [7u32; 10233];
     let lengths = key_lengths(row, change);
-    let answer = key_through(row.set, lengths, a, s, e, &mut b);
+    let answer = key_with_buffers(row.set, lengths, a, s, e, &mut b);
     call(b"key", row.set, lengths);
     left(answer, &b);
     b
@@ -321,7 +321,7 @@ fn seal(
     c1: &mut [u32],
     c2: &mut [u32],
 ) -> Answer {
-    numbers::sealing::sealing(
+    numbers_sealing::sealing(
         set,
         report::numbers(a, 0, lengths[0]),
         report::numbers(b, 0, lengths[1]),
@@ -395,7 +395,7 @@ fn read(
     s: &[u32],
     bits: &mut [u32],
 ) -> Answer {
-    numbers::reading::reading(
+    numbers_reading::reading(
         set,
         report::numbers(c1, 0, lengths[0]),
         report::numbers(c2, 0, lengths[1]),

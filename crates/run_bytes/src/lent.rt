@@ -9,8 +9,8 @@ fn case(a: usize, b: usize, c: usize, d: usize) {
 }
 
 // A draw of residues: set, bytes lent, results wanted, and the first candidate that is set aside and how many are.
-fn residues_through(bytes: &[u8], out: &mut [u32], row: [usize; 5]) {
-    let answer = draws::residues(
+fn residues_with_buffers(bytes: &[u8], out: &mut [u32], row: [usize; 5]) {
+    let answer = lent_draws::residues(
         row[0],
         report::front(bytes, row[1]),
         report::numbers_mut(out, 0, row[2]),
@@ -29,12 +29,12 @@ fn residues(row: [usize; 5]) {
     let mut out = [7u32; 4097];
     report::fill_bytes(&mut bytes, 1);
     report::set_aside(&mut bytes, row[3], row[4]);
-    residues_through(&bytes, &mut out, row);
+    residues_with_buffers(&bytes, &mut out, row);
 }
 
 // A draw of errors.
-fn errors_through(bytes: &[u8], out: &mut [i32], set: usize, lent: usize, wanted: usize) {
-    let answer = draws::errors(
+fn errors_with_buffers(bytes: &[u8], out: &mut [i32], set: usize, lent: usize, wanted: usize) {
+    let answer = lent_draws::errors(
         set,
         report::front(bytes, lent),
         report::signed_mut(out, 0, wanted),
@@ -53,12 +53,12 @@ fn errors(set: usize, lent: usize, wanted: usize) {
     let mut bytes = [0u8; 15300];
     let mut out = [7i32; 4097];
     report::fill_bytes(&mut bytes, 2);
-    errors_through(&bytes, &mut out, set, lent, wanted);
+    errors_with_buffers(&bytes, &mut out, set, lent, wanted);
 }
 
 // A draw of multipliers: set, bytes lent, first position and results wanted.
-fn multipliers_through(bytes: &[u8], out: &mut [i32], row: [usize; 4]) {
-    let answer = draws::multipliers(
+fn multipliers_with_buffers(bytes: &[u8], out: &mut [i32], row: [usize; 4]) {
+    let answer = lent_draws::multipliers(
         row[0],
         report::front(bytes, row[1]),
         row[2],
@@ -76,7 +76,7 @@ fn multipliers(row: [usize; 4]) {
     let mut bytes = [0u8; 15300];
     let mut out = [7i32; 4097];
     report::fill_bytes(&mut bytes, 3);
-    multipliers_through(&bytes, &mut out, row);
+    multipliers_with_buffers(&bytes, &mut out, row);
 }
 
 // The cases of a draw of residues: counts of results at the limit and one past it, bytes that end one short or exactly, then 127 and 128

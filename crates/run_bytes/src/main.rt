@@ -1,8 +1,8 @@
 // Runs the bytes layer: SHAKE256 and KMAC, the draws over lent bytes, and the draws from a seed. Standard input holds the seeds of three known cases.
-mod hashes;
 mod known;
 mod lent;
 mod seeded;
+mod sponges;
 
 use libc::STDIN_FILENO;
 
@@ -10,7 +10,7 @@ fn main() {
     let mut input = io::buffer();
     let end = io::read_full(STDIN_FILENO, &mut input);
     known::run(report::front(&input, end));
-    hashes::run();
+    sponges::run();
     lent::run();
     seeded::run();
 }

@@ -7,7 +7,6 @@ ghost use Prim.Native.Nat.{_≤_, _<_};
 ghost use lib.ListN.{length};
 ghost use Rattle.sets.specs.Rules.{Rules, ByteRules};
 ghost use Rattle.sets.specs.Derived.{multiplierCount};
-ghost use Rattle.samplers.specs.Seeded.{errorCount};
 
 // A number, or the limit below or above it.
 fn within(x: usize, least: usize, most: usize) -> usize
@@ -106,14 +105,6 @@ fn all_residues(set: usize, seed: [u8; 32]) {
     residues(set, seed, 384, 5, 1000);
 }
 
-// How many errors one key of a set has.
-fn error_count(p: Parameters) -> usize
-    requires { ⌜ Rules p × ByteRules p ⌝ }
-    ensures { λ r. ⌜ (r ≡ errorCount p) × (r ≤ 10240) ⌝ }
-{
-    p.t * (p.d + p.k)
-}
-
 // How many multipliers one sealing of a set has.
 pub fn multiplier_count(p: Parameters) -> usize
     requires { ⌜ Rules p ⌝ }
@@ -127,8 +118,8 @@ pub fn errors_into(set: usize, seed: &[u8], counter: u32, out: &mut [u32])
     requires { ⌜ (length (now seed) ≤ 65536) × (length (now out) ≡ 10240) ⌝ }
 {
     let p = parameters(set);
-    let count = error_count(p);
-    samplers::errors_from(p, seed, counter, &mut out[0..count]);
+    let count = samplers::error_count(p);
+    samplers::errors_from(p, seed, counter % 100000, &mut out[0..count]);
 }
 
 // The same after the numbers of the case.
@@ -234,7 +225,7 @@ fn one_set(set: usize) {
 // Every set.
 pub fn run() {
     let mut set: usize = 1;
-    while set < 13 {
+    while set <= sets::LAST {
         one_set(set);
         set += 1;
     }

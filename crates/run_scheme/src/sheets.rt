@@ -3,7 +3,7 @@
 ghost use Prim.Native.Nat.{_<_, _≤_};
 
 // Prints the sheet of one input; `text` is lent for it.
-fn print_through(input: &[u8], text: &mut [u8], work: &mut [u32]) {
+fn print_with_buffers(input: &[u8], text: &mut [u8], work: &mut [u32]) {
     let written = sheet::sheet(input, text, work);
     report::text(report::front(text, written));
 }
@@ -11,7 +11,7 @@ fn print_through(input: &[u8], text: &mut [u8], work: &mut [u32]) {
 // Prints the sheet of one input.
 pub fn print_sheet(input: &[u8], work: &mut [u32]) {
     let mut text = [0u8; 1024];
-    print_through(input, &mut text, work);
+    print_with_buffers(input, &mut text, work);
 }
 
 // A byte as a length.
@@ -42,7 +42,7 @@ fn print_sheets(inputs: &[u8], work: &mut [u32]) {
 const BENCH: [u8; 14] = [0, 3, 5, 1, 2, 3, 4, 1, 0, 255, 1, 254, 1, 0];
 
 // The Bench sheet in slices of these lengths; the checksums cover what lies behind them too.
-fn lent_through(lengths: [usize; 2], text: &mut [u8], work: &mut [u32]) {
+fn lent_with_buffers(lengths: [usize; 2], text: &mut [u8], work: &mut [u32]) {
     let input = BENCH;
     let written = sheet::sheet(
         &input,
@@ -62,7 +62,7 @@ fn lent_through(lengths: [usize; 2], text: &mut [u8], work: &mut [u32]) {
 fn lent(change: usize) {
     let mut text = [7u8; 1025];
     let mut work = [7u32; 22522];
-    lent_through(
+    lent_with_buffers(
         [
             report::changed(1024, 0, change),
             report::changed(22521, 1, change),
@@ -92,13 +92,13 @@ fn made_sealing(noise: u32, c1: &mut [u32], c2: &mut [u32]) {
     let b = [11u32, made_key(noise), 10];
     let r = [1i32, 1];
     let message = [0u32, 0];
-    report::answer(numbers::sealing::sealing(0, &a, &b, &r, &message, c1, c2));
+    report::answer(numbers_sealing::sealing(0, &a, &b, &r, &message, c1, c2));
 }
 
 // Reads such a sealing and prints the answer.
 fn made_reading(c1: &[u32], c2: &[u32], bits: &mut [u32]) {
     let s = [1u32, 2, 3, 4];
-    report::answer(numbers::reading::reading(0, c1, c2, &s, bits));
+    report::answer(numbers_reading::reading(0, c1, c2, &s, bits));
 }
 
 // Prints a number.

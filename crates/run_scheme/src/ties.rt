@@ -28,14 +28,14 @@ fn read(set: usize, seed: &[u8], sealed: &[u8], message: &mut [u8], work: &mut [
     if set < 1 {
         return Answer::Refused(1, 0);
     }
-    if 12 < set {
+    if sets::LAST < set {
         return Answer::Refused(1, 0);
     }
     let p = sets::parameters_of(set);
     if seed.len() != 32 {
         return Answer::Refused(2, 0);
     }
-    if sealed.len() != sets::derived::sealed_bytes(p) {
+    if sealed.len() != sets::derived::cpa_ciphertext_bytes(p) {
         return Answer::Refused(2, 0);
     }
     if message.len() != 32 {
@@ -44,7 +44,7 @@ fn read(set: usize, seed: &[u8], sealed: &[u8], message: &mut [u8], work: &mut [
     if work.len() != scheme::work_length(p) {
         return Answer::Refused(2, 0);
     }
-    opening::open(set, seed, sealed, message, work)
+    cpa_decrypt::decrypt(set, seed, sealed, message, work)
 }
 
 // Reads such a ciphertext by decrypt where the set has it.

@@ -28,7 +28,7 @@ pub fn write(
     if set < 1 {
         return;
     }
-    if 12 < set {
+    if sets::LAST < set {
         return;
     }
     let p = sets::parameters_of(set);
@@ -44,8 +44,8 @@ pub fn write(
     if work.len() != scheme::work_length(p) {
         return;
     }
-    if !sealing::key_below(set, public, work) {
+    if !cpa_encrypt::key_below(set, public, work) {
         return;
     }
-    sealing::numbers_before_packing(set, public, message, seed, out, work);
+    cpa_encrypt::numbers_before_packing(set, public, message, seed, out, work);
 }

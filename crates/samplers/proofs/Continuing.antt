@@ -55,7 +55,9 @@ over-one xs at x h = set-split xs at x h ∙ rw (append-assoc, add-one)
 -- after some results from a block: they stand in the output, and the draw goes on from a position
 pub record Continuing (bytes : List ℕ) (q threshold from before : ℕ) (old : List ℕ) (position done run : ℕ) (new : List ℕ) : Type 0 where
   pub numbers : List ℕ
-  pub same : accept q threshold (length old - from) before (candidates bytes) ≡ after numbers (accept q threshold (length old - done) run (candidates (drop position bytes)))
+  pub same :
+      accept q threshold (length old - from) before (candidates bytes)
+      ≡ after numbers (accept q threshold (length old - done) run (candidates (drop position bytes)))
   pub count : done ≡ from + length numbers
   pub within : done ≤ length old
   pub inside : position ≤ length bytes
@@ -79,63 +81,66 @@ continuing-none bytes q threshold from before old h less =
       written = sym (over-none old from);
     }
 
-module _ {bytes : List ℕ} {q threshold from before : ℕ} {old : List ℕ} {position done run : ℕ} {new : List ℕ} (s : Continuing bytes q threshold from before old position done run new) where
-  -- the whole draw
-  abbrev whole : Drawn
-  whole = accept q threshold (length old - from) before (candidates bytes)
+module _ {bytes : List ℕ} {q threshold from before : ℕ} {old : List ℕ} {position done run : ℕ} {new : List ℕ}
+    (s : Continuing bytes q threshold from before old position done run new)
+  where
+    -- the whole draw
+    abbrev whole : Drawn
+    whole = accept q threshold (length old - from) before (candidates bytes)
 
-  -- all results are drawn
-  pub continuing-all : length old ≤ done → (reached done 0 ≡ standingAfter from whole) × Written from whole old new
-  continuing-all h =
-      let none : length old - done ≡ 0 = omega arith in
-      let e : whole ≡ taken (s .numbers) = s .same ∙ rw (none, accept-none) (after-taken (s .numbers) [] ∙ ap taken (append-nil (s .numbers))) in
-      rw e (ap (λ (k : ℕ). reached k 0) (s .count), s .written)
+    -- all results are drawn
+    pub continuing-all : length old ≤ done → (reached done 0 ≡ standingAfter from whole) × Written from whole old new
+    continuing-all h =
+        let none : length old - done ≡ 0 = omega arith in
+        let e : whole ≡ taken (s .numbers) = s .same ∙ rw (none, accept-none) (after-taken (s .numbers) [] ∙ ap taken (append-nil (s .numbers))) in
+        rw e (ap (λ (k : ℕ). reached k 0) (s .count), s .written)
 
-  module _ (unfinished : done < length old) where
-    -- the draw of the results that are left
-    abbrev rest : Drawn
-    rest = accept q threshold (suc (length old - (done + 1))) run (candidates (drop position bytes))
+    module _ (unfinished : done < length old) where
+      -- the draw of the results that are left
+      abbrev rest : Drawn
+      rest = accept q threshold (suc (length old - (done + 1))) run (candidates (drop position bytes))
 
-    -- it is what the whole draw goes on with
-    onwards : whole ≡ after (s .numbers) rest
-    onwards = let left : length old - done ≡ suc (length old - (done + 1)) = omega arith in s .same ∙ rw left
+      -- it is what the whole draw goes on with
+      onwards : whole ≡ after (s .numbers) rest
+      onwards = let left : length old - done ≡ suc (length old - (done + 1)) = omega arith in s .same ∙ rw left
 
-    -- a result is drawn and written
-    pub continuing-more : (x next : ℕ) → sampleAt q threshold run bytes position ≡ number x next →
-        Continuing bytes q threshold from before old next (done + 1) 0 (set new done x)
-    continuing-more x next e =
-        record {
-          numbers = s .numbers ++ (x ∷ []);
-          same = onwards ∙ rw (next-number q threshold (length old - (done + 1)) run bytes position x next e) (after-put (s .numbers) x _);
-          count = rw length-append (omega (arith, s .count));
-          within = omega arith;
-          inside = next-within q threshold 0 run bytes position x next (s .inside) e;
-          less = omega arith;
-          kept = length-set new done x ∙ s .kept;
-          written =
-              over-one new done x (omega (arith, s .kept))
-              ∙ rw (s .written, s .count) (over-append old from (s .numbers) (omega (arith, s .count)) (x ∷ []));
-        }
+      -- a result is drawn and written
+      pub continuing-more : (x next : ℕ) → sampleAt q threshold run bytes position ≡ number x next →
+          Continuing bytes q threshold from before old next (done + 1) 0 (set new done x)
+      continuing-more x next e =
+          record {
+            numbers = s .numbers ++ (x ∷ []);
+            same = onwards ∙ rw (next-number q threshold (length old - (done + 1)) run bytes position x next e) (after-put (s .numbers) x _);
+            count = rw length-append (omega (arith, s .count));
+            within = omega arith;
+            inside = next-within q threshold 0 run bytes position x next (s .inside) e;
+            less = omega arith;
+            kept = length-set new done x ∙ s .kept;
+            written =
+                over-one new done x (omega (arith, s .kept))
+                ∙ rw (s .written, s .count) (over-append old from (s .numbers) (omega (arith, s .count)) (x ∷ []));
+          }
 
-    -- a result is refused: where the draw stands, and how many candidates were set aside in a row when the bytes ended
-    pub continuing-stop : (n : ℕ) → sampleAt q threshold run bytes position ≡ refusal n →
-        (cond (eqb n 4) (reached done (run + (length bytes - position) / 3)) (stopped n) ≡ standingAfter from whole) × Written from whole old new
-    continuing-stop n e =
-        elim (next-refused q threshold (length old - (done + 1)) run bytes position n e) [
-          | inl end ↦
-              let whole-is : whole ≡ ended (s .numbers) (run + (length bytes - position) / 3) =
-              onwards
-              ∙ rw (end .1) (after-ended (s .numbers) [] _ ∙ ap (λ (xs : List ℕ). ended xs (run + (length bytes - position) / 3)) (append-nil (s .numbers))) in
-              rw (whole-is, end .0) (ap (λ (k : ℕ). reached k (run + (length bytes - position) / 3)) (s .count), s .written)
-          | inr last ↦
-              let whole-is : whole ≡ exhausted (length (s .numbers) + 0) = onwards ∙ rw (last .1) (after-exhausted (s .numbers) 0) in
-              rw (whole-is, last .0) (refl, s .kept)
-        ]
+      -- a result is refused: where the draw stands, and how many candidates were set aside in a row when the bytes ended
+      pub continuing-stop : (n : ℕ) → sampleAt q threshold run bytes position ≡ refusal n →
+          (cond (eqb n 4) (reached done (run + (length bytes - position) / 3)) (stopped n) ≡ standingAfter from whole) × Written from whole old new
+      continuing-stop n e =
+          elim (next-refused q threshold (length old - (done + 1)) run bytes position n e) [
+            | inl end ↦
+                let whole-is : whole ≡ ended (s .numbers) (run + (length bytes - position) / 3) =
+                onwards
+                ∙ rw (end .1)
+                (after-ended (s .numbers) [] _ ∙ ap (λ (xs : List ℕ). ended xs (run + (length bytes - position) / 3)) (append-nil (s .numbers))) in
+                rw (whole-is, end .0) (ap (λ (k : ℕ). reached k (run + (length bytes - position) / 3)) (s .count), s .written)
+            | inr last ↦
+                let whole-is : whole ≡ exhausted (length (s .numbers) + 0) = onwards ∙ rw (last .1) (after-exhausted (s .numbers) 0) in
+                rw (whole-is, last .0) (refl, s .kept)
+          ]
 
-    -- a run of candidates at the end of a block is below 128
-    pub continuing-run : (n : ℕ) → sampleAt q threshold run bytes position ≡ refusal n → n ≡ 4 → run + (length bytes - position) / 3 < 128
-    continuing-run n e four =
-        elim (next-refused q threshold (length old - (done + 1)) run bytes position n e) [
-          | inl end ↦ rw (end .1) at (accept-within q threshold (suc (length old - (done + 1))) run (candidates (drop position bytes)) (s .less)) .less
-          | inr last ↦ absurd (omega (arith, last .0))
-        ]
+      -- a run of candidates at the end of a block is below 128
+      pub continuing-run : (n : ℕ) → sampleAt q threshold run bytes position ≡ refusal n → n ≡ 4 → run + (length bytes - position) / 3 < 128
+      continuing-run n e four =
+          elim (next-refused q threshold (length old - (done + 1)) run bytes position n e) [
+            | inl end ↦ rw (end .1) at (accept-within q threshold (suc (length old - (done + 1))) run (candidates (drop position bytes)) (s .less)) .less
+            | inr last ↦ absurd (omega (arith, last .0))
+          ]

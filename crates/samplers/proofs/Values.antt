@@ -16,7 +16,7 @@ use Rattle.sets.specs.Derived.{multiplierCount, multiplierDrawBytes, errorDrawB
 use Rattle.draws.specs.Small.{errorAt, multiplierBits, multiplierAt}
 use Rattle.draws.proofs.Bits.{error-most, multiplier-size, power-most}
 use Rattle.draws.proofs.Positions.{bits-most, turn-length, turn-at}
-use Rattle.source.specs.Source.{sourceBytes}
+use Rattle.byte_source.specs.Source.{State, initial, output}
 use Rattle.samplers.specs.Seeded.{errorCount, errorByte, errorsOf, errorsDrawn, multipliersOf, multipliersDrawn}
 
 -- a place in rows of some numbers lies in a row of one byte more
@@ -53,7 +53,8 @@ module _ (p : Parameters) where
   multipliers-length bytes = turn-length _ 0 (multiplierCount p)
 
   -- each multiplier of the bytes
-  pub multipliers-at : (position : ℕ) → position < multiplierCount p → (bytes : List ℕ) → getD (multipliersOf p bytes) position (pos 0) ≡ multiplierAt p bytes position
+  pub multipliers-at : (position : ℕ) → position < multiplierCount p → (bytes : List ℕ)
+      → getD (multipliersOf p bytes) position (pos 0) ≡ multiplierAt p bytes position
   unfolding multipliersOf
   multipliers-at position h bytes = turn-at _ 0 (multiplierCount p) position (pos 0) h ∙ rw zero-add
 
@@ -62,40 +63,37 @@ module _ (p : Parameters) where
   unfolding errorAt
   error-size bytes byte = error-most (getD bytes byte 0)
 
-  -- a multiplier is 1 to 2^bits in size
-  pub multiplier-some : (bytes : List ℕ) (position : ℕ) → 1 ≤ natAbs (multiplierAt p bytes position)
-  unfolding multiplierAt
-  multiplier-some bytes position = rw multiplier-size (omega arith)
-
   pub multiplier-most : (bytes : List ℕ) (position : ℕ) → natAbs (multiplierAt p bytes position) ≤ 2 ^ multiplierBits p position
   unfolding multiplierAt
   multiplier-most bytes position = rw multiplier-size (size-most (multiplierBits p position) _)
 
   -- so it is at most 512
   pub multiplier-512 : Rules p → (bytes : List ℕ) (position : ℕ) → natAbs (multiplierAt p bytes position) ≤ 512
-  multiplier-512 rules bytes position = omega (arith, multiplier-most bytes position, power-most (multiplierBits p position) (bits-most p rules position))
+  multiplier-512 rules bytes position =
+      omega (arith, multiplier-most bytes position, power-most (multiplierBits p position) (bits-most p rules position))
+
+  module _ (state : State) where
+    -- how many errors a key has
+    pub errorsDrawn-length : length (errorsDrawn p state) ≡ errorCount p
+    unfolding errorsDrawn
+    errorsDrawn-length = errors-length _
+
+    -- and their sizes
+    pub errorsDrawn-most : (place : ℕ) → place < errorCount p → natAbs (getD (errorsDrawn p state) place (pos 0)) ≤ 4
+    unfolding errorsDrawn
+    errorsDrawn-most place h = rw (errors-at place h (output p state (errorDrawBytes p) .bytes)) (error-size _ _)
 
   module _ (seed : List ℕ) where
-    module _ (counter : ℕ) where
-      -- how many errors a key has
-      pub errorsDrawn-length : length (errorsDrawn p seed counter) ≡ errorCount p
-      unfolding errorsDrawn
-      errorsDrawn-length = errors-length _
-
-      -- and their sizes
-      pub errorsDrawn-most : (place : ℕ) → place < errorCount p → natAbs (getD (errorsDrawn p seed counter) place (pos 0)) ≤ 4
-      unfolding errorsDrawn
-      errorsDrawn-most place h = rw (errors-at place h (sourceBytes p seed counter (errorDrawBytes p))) (error-size _ _)
-
     -- how many multipliers a sealing has
     pub multipliersDrawn-length : length (multipliersDrawn p seed) ≡ multiplierCount p
     unfolding multipliersDrawn
     multipliersDrawn-length = multipliers-length _
 
     module _ (position : ℕ) (h : position < multiplierCount p) where
+      -- and their sizes
       pub multipliersDrawn-most : natAbs (getD (multipliersDrawn p seed) position (pos 0)) ≤ 2 ^ multiplierBits p position
       unfolding multipliersDrawn
-      multipliersDrawn-most = rw (multipliers-at position h (sourceBytes p seed 0 (multiplierDrawBytes p))) (multiplier-most _ _)
+      multipliersDrawn-most = rw (multipliers-at position h (output p (initial seed) (multiplierDrawBytes p) .bytes)) (multiplier-most _ _)
 
 -- the invariant of a loop that writes the residues of whole numbers
 abbrev pub Reduced : ℕ → List ℤ → List ℕ → ℕ → List ℕ → Type 0
@@ -106,5 +104,7 @@ pub reduced-none : (q : ℕ) (zs : List ℤ) (old : List ℕ) → length zs ≡ 
 reduced-none q zs old e = filled-none (length-map zs (residue q) ∙ e) (omega arith)
 
 -- one number more
-pub reduced-more : (q : ℕ) (zs : List ℤ) {old : List ℕ} {i : ℕ} {new : List ℕ} {x : ℕ} (z : ℤ) → Reduced q zs old i new → i < length old → getD zs i (pos 0) ≡ z → x ≡ residue q z → Reduced q zs old (i + 1) (set new i x)
-reduced-more q zs {i = i} z t h e v = filled-more (residue q (pos 0)) t h (omega arith) (v ∙ ap (residue q) (sym e) ∙ sym (List·getD-map (residue q) zs i (pos 0)))
+pub reduced-more : (q : ℕ) (zs : List ℤ) {old : List ℕ} {i : ℕ} {new : List ℕ} {x : ℕ} (z : ℤ) → Reduced q zs old i new → i < length old
+    → getD zs i (pos 0) ≡ z → x ≡ residue q z → Reduced q zs old (i + 1) (set new i x)
+reduced-more q zs {i = i} z t h e v =
+    filled-more (residue q (pos 0)) t h (omega arith) (v ∙ ap (residue q) (sym e) ∙ sym (List·getD-map (residue q) zs i (pos 0)))

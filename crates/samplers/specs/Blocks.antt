@@ -1,66 +1,70 @@
--- Uniform residues from a seed, block after block (003, section 2.2.3, algorithm 8).
+-- Uniform residues from a state of the byte source, one output after the other (003, section 2.2.3, algorithm 8).
 -- Assumes nothing.
 use mathlib.Core.Path.{_≡_, refl}
-use mathlib.Core.List.{List, [], _∷_, _++_}
+use mathlib.Core.List.{List, [], _∷_}
 use Prim.Native.Nat.{ℕ, zero, suc, _+_}
 use lib.ListN.{length}
-use Rattle.maths.specs.Sum.{sum}
 use Rattle.calls.specs.Region.{over}
 use Rattle.sets.specs.declared.Parameters.{Parameters}
-use Rattle.draws.specs.Uniform.{candidates, Drawn, taken, ended, exhausted, accept}
-use Rattle.source.specs.Source.{sourceBytes}
+use Rattle.draws.specs.Uniform.{candidates, Drawn, taken, ended, exhausted, accept, resume}
+use Rattle.byte_source.specs.Source.{State, stateAt, output}
 use Rattle.samplers.specs.declared.Progress.{Progress}
 use Rattle.samplers.specs.declared.Progress.the-variants as progress
 use Rattle.samplers.specs.declared.Advance.{Advance}
 use Rattle.samplers.specs.declared.Advance.the-variants as advance
 
--- the candidates of m blocks of size bytes, the first of them with this counter, which rises by one at each block
-unfoldable pub blockCandidates : Parameters → List ℕ → ℕ → ℕ → ℕ → List ℕ
-blockCandidates p seed size counter zero = []
-blockCandidates p seed size counter (suc m) = blockCandidates p seed size counter m ++ candidates (sourceBytes p seed (counter + m) size)
+-- a draw from a state of the byte source: what was drawn, and the state afterwards
+pub record Sampled : Type 0 where
+  pub drawn : Drawn
+  pub next : State
 
--- a draw of wanted results from m blocks
-unfoldable pub drawnFrom : Parameters → List ℕ → ℕ → ℕ → ℕ → ℕ → Drawn
-drawnFrom p seed size counter wanted m = accept (p .q) (p .zqrej) wanted 0 (blockCandidates p seed size counter m)
+abbrev pub sampled : Drawn → State → Sampled
+sampled drawn next = record { drawn = drawn; next = next }
 
--- algorithm 8: as many blocks as results wanted always suffice, since a block holds 128 candidates or more
-unfoldable pub uniform : Parameters → List ℕ → ℕ → ℕ → ℕ → Drawn
-uniform p seed size counter wanted = drawnFrom p seed size counter wanted wanted
+-- one block more: a draw that ended short goes on over the candidates of the next output of size bytes; another reads nothing more
+unfoldable pub oneBlock : Parameters → ℕ → ℕ → Drawn → State → Sampled
+oneBlock p size wanted (taken xs) state = sampled (taken xs) state
+oneBlock p size wanted (ended xs run) state =
+    let read = output p state size in
+    sampled (resume (p .q) (p .zqrej) wanted (ended xs run) (candidates (read .bytes))) (read .next)
+oneBlock p size wanted (exhausted i) state = sampled (exhausted i) state
 
--- 1 for a draw whose candidates ended, else 0
-abbrev pub isEnded : Drawn → ℕ
-isEnded (taken xs) = 0
-isEnded (ended xs run) = 1
-isEnded (exhausted i) = 0
+-- a draw of wanted results after m blocks at most
+unfoldable pub uniformAfter : Parameters → State → ℕ → ℕ → ℕ → Sampled
+uniformAfter p state size wanted zero = sampled (accept (p .q) (p .zqrej) wanted 0 []) state
+uniformAfter p state size wanted (suc m) =
+    let before = uniformAfter p state size wanted m in
+    oneBlock p size wanted (before .drawn) (before .next)
 
--- how many blocks a draw reads: one for each count of blocks, from 0 on, that does not suffice
-unfoldable pub blocksRead : Parameters → List ℕ → ℕ → ℕ → ℕ → ℕ
-blocksRead p seed size counter wanted = sum wanted (λ m. isEnded (drawnFrom p seed size counter wanted m))
+-- algorithm 8: as many blocks as results wanted always suffice, since a block of a set holds 128 candidates or more
+unfoldable pub uniform : Parameters → State → ℕ → ℕ → Sampled
+uniform p state size wanted = uniformAfter p state size wanted wanted
 
--- the papers' answer of a draw from a seed: the counter afterwards, or the number of the refusal
+-- the papers' answer of a draw from a state: the state afterwards, or the number of the refusal
 pub data Onward : Type 0 where
-  onto : ℕ → Onward
+  onto : State → Onward
   refusal : ℕ → Onward
 
--- the papers' answer for each case of the code's answer
-abbrev pub onward : Advance → Onward
-onward (advance.Counter counter) = onto counter
-onward (advance.Refused number) = refusal number
+-- the papers' answer for each case of the code's answer to a draw from a seed
+abbrev pub onward : List ℕ → Advance → Onward
+onward seed (advance.Counter counter) = onto (stateAt seed counter)
+onward seed (advance.Refused number) = refusal number
 
 -- the number of the refusal, and 0 where there is none
-abbrev pub refusedBy : Onward → ℕ
-refusedBy (onto counter) = 0
-refusedBy (refusal number) = number
+abbrev pub refusedBy : Advance → ℕ
+refusedBy (advance.Counter counter) = 0
+refusedBy (advance.Refused number) = number
 
--- with the counter afterwards: 5 where one result's 128th candidate in a row was set aside
-abbrev pub onwardFrom : ℕ → Drawn → Onward
-onwardFrom counter (taken xs) = onto counter
-onwardFrom counter (ended xs run) = refusal 5
-onwardFrom counter (exhausted i) = refusal 5
+-- the answer with the state afterwards; as for lent bytes, 4 where the candidates ended, which does not happen with the blocks of a set
+-- (`uniform-never-ends`), and 5 where one result's 128th in a row was set aside
+abbrev pub answerOf : Drawn → State → Onward
+answerOf (taken xs) state = onto state
+answerOf (ended xs run) state = refusal 4
+answerOf (exhausted i) state = refusal 5
 
--- the answer of a uniform draw from a seed
-unfoldable pub uniformAnswer : Parameters → List ℕ → ℕ → ℕ → ℕ → Onward
-uniformAnswer p seed size counter wanted = onwardFrom (counter + blocksRead p seed size counter wanted) (uniform p seed size counter wanted)
+-- the answer of a uniform draw
+unfoldable pub uniformAnswer : Parameters → State → ℕ → ℕ → Onward
+uniformAnswer p state size wanted = let all = uniform p state size wanted in answerOf (all .drawn) (all .next)
 
 -- where a draw stands after one block: so many results are done, with a run of candidates set aside since, or it is refused with a number
 pub data Standing : Type 0 where
@@ -93,5 +97,5 @@ Written done (exhausted i) old new = length new ≡ length old
 standingAfter-example : standingAfter 2 (ended (7 ∷ []) 2) ≡ reached 3 2
 standingAfter-example = refl
 
-onwardFrom-example : onwardFrom 9 (exhausted 3) ≡ refusal 5
-onwardFrom-example = refl
+answerOf-example : answerOf (exhausted 3) (stateAt [] 9) ≡ refusal 5
+answerOf-example = refl

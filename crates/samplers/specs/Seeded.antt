@@ -10,25 +10,27 @@ use Rattle.sets.specs.Derived.{multiplierCount, multiplierDrawBytes, errorDrawB
 use Rattle.draws.specs.Uniform.{Drawn}
 use Rattle.draws.specs.Small.{errorAt, multiplierAt}
 use Rattle.draws.specs.Calls.{inTurn}
-use Rattle.source.specs.Source.{sourceBytes}
-use Rattle.samplers.specs.Blocks.{uniform, blocksRead}
+use Rattle.byte_source.specs.Source.{State, initial, output}
+use Rattle.samplers.specs.Blocks.{Sampled, uniform}
 
--- Samps: d3 numbers, the secret as it is stored
+-- Samps: from seedsk, d3 numbers, the secret as it is stored, and the state with which Sampe goes on
+unfoldable pub secretSampled : Parameters → List ℕ → Sampled
+secretSampled p seed = uniform p (initial seed) (p .bytpcs) (p .d3)
+
 unfoldable pub secretDrawn : Parameters → List ℕ → Drawn
-secretDrawn p seed = uniform p seed (p .bytpcs) 0 (p .d3)
+secretDrawn p seed = secretSampled p seed .drawn
 
--- the counter that Samps leaves, with which Sampe goes on
-unfoldable pub secretCounter : Parameters → List ℕ → ℕ
-secretCounter p seed = blocksRead p seed (p .bytpcs) 0 (p .d3)
+unfoldable pub secretState : Parameters → List ℕ → State
+secretState p seed = secretSampled p seed .next
 
--- Sampa: the counter with which public polynomial i begins; each begins with a new block
-unfoldable pub publicCounter : Parameters → List ℕ → ℕ → ℕ
-publicCounter p seed zero = 0
-publicCounter p seed (suc i) = publicCounter p seed i + blocksRead p seed (p .bytpca) (publicCounter p seed i) (p .n)
+-- Sampa: from seedpk, polynomial i begins with the state that polynomial i − 1 left, the first with the seed's own
+unfoldable pub publicState : Parameters → List ℕ → ℕ → State
+publicState p seed zero = initial seed
+publicState p seed (suc i) = uniform p (publicState p seed i) (p .bytpca) (p .n) .next
 
--- Sampa: the n numbers of public polynomial i
+-- its n numbers
 unfoldable pub publicDrawn : Parameters → List ℕ → ℕ → Drawn
-publicDrawn p seed i = uniform p seed (p .bytpca) (publicCounter p seed i) (p .n)
+publicDrawn p seed i = uniform p (publicState p seed i) (p .bytpca) (p .n) .drawn
 
 -- how many errors one key has: d + k for each of t polynomials
 unfoldable pub errorCount : Parameters → ℕ
@@ -42,17 +44,17 @@ errorByte p place = place / (p .d + p .k) * (p .d + p .k + 1) + place % (p .d + 
 unfoldable pub errorsOf : Parameters → List ℕ → List ℤ
 errorsOf p bytes = inTurn (λ place. errorAt bytes (errorByte p place)) 0 (errorCount p)
 
--- Sampe: all errors of one key, from the counter that Samps left
-unfoldable pub errorsDrawn : Parameters → List ℕ → ℕ → List ℤ
-errorsDrawn p seed counter = errorsOf p (sourceBytes p seed counter (errorDrawBytes p))
+-- Sampe: all errors of one key, from a state
+unfoldable pub errorsDrawn : Parameters → State → List ℤ
+errorsDrawn p state = errorsOf p (output p state (errorDrawBytes p) .bytes)
 
 -- the multipliers of one sealing from their bytes
 unfoldable pub multipliersOf : Parameters → List ℕ → List ℤ
 multipliersOf p bytes = inTurn (multiplierAt p bytes) 0 (multiplierCount p)
 
--- Sampr: all multipliers of one sealing
+-- Sampr: all multipliers of one sealing, from seedr
 unfoldable pub multipliersDrawn : Parameters → List ℕ → List ℤ
-multipliersDrawn p seed = multipliersOf p (sourceBytes p seed 0 (multiplierDrawBytes p))
+multipliersDrawn p seed = multipliersOf p (output p (initial seed) (multiplierDrawBytes p) .bytes)
 
 -- Bench has three errors to a polynomial and one byte more
 errorByte-example : errorByte (setOf 0) 2 ≡ 2

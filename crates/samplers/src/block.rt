@@ -1,15 +1,18 @@
-// One block of a uniform draw (specs/Blocks.antt).
+// Uniform draws, block after block (specs/Blocks.antt).
+use crate::Advance;
 use crate::Progress;
 use draws::Draw;
 use sets::Parameters;
 ghost use mathlib.Core.Path.{_≡_};
 ghost use mathlib.Core.Bool.{cond};
-ghost use Prim.Native.Nat.{_+_, _-_, _/_, _≤_, _<_};
+ghost use mathlib.Core.List.{List};
+ghost use Prim.Native.Nat.{ℕ, _+_, _-_, _*_, _/_, _^_, _≤_, _<_};
 ghost use lib.Dec.{eqb};
 ghost use lib.ListN.{length};
 ghost use Rattle.sets.specs.Rules.{Rules};
-ghost use Rattle.draws.specs.Uniform.{candidates, accept};
-ghost use Rattle.source.specs.Source.{sourceBytes};
+ghost use Rattle.draws.specs.Uniform.{candidates, taken, accept};
+ghost use Rattle.byte_source.specs.Source.{stateAt};
+ghost use Rattle.samplers.specs.Blocks.{uniform, onward, uniformAnswer};
 ghost use Rattle.samplers.specs.Blocks.{reached, stopped, standing, stoppedBy, standingAfter, Written};
 
 // Where a draw stands when its next result is refused: by 4 the block ended, and the candidates of the bytes left in it were all set aside.
@@ -44,8 +47,10 @@ pub fn continue_draw(
     out: &mut [u32],
 ) -> Progress
     requires { ⌜ (0 < q) × (3 ≤ length (now bytes)) × (from < length (now out)) × (before < 128) ⌝ }
-    ensures answer { λ r. ⌜ standing r ≡ standingAfter from (accept q threshold (length (now (out .entry)) - from) before (candidates (now (bytes .entry)))) ⌝ }
-    ensures result { λ _. ⌜ Written from (accept q threshold (length (now (out .entry)) - from) before (candidates (now (bytes .entry)))) (now (out .entry)) (now (out .exit)) ⌝ }
+    ensures answer { λ r. ⌜ standing r
+        ≡ standingAfter from (accept q threshold (length (now (out .entry)) - from) before (candidates (now (bytes .entry)))) ⌝ }
+    ensures result { λ _. ⌜ Written from (accept q threshold (length (now (out .entry)) - from) before (candidates (now (bytes .entry))))
+        (now (out .entry)) (now (out .exit)) ⌝ }
 {
     let mut position: usize = 0;
     let mut done = from;
@@ -68,38 +73,35 @@ pub fn continue_draw(
     Progress::Reached(done, 0)
 }
 
-// Goes on with a draw over the block of a counter, which it reads into `bytes`.
-fn draw_through(
+// Draws a uniform residue for each number of `out`, block after block, each an output of the source that is read into `bytes`.
+pub fn residues_with_buffers(
     p: Parameters,
     seed: &[u8],
-    counter: u32,
+    first: u32,
     bytes: &mut [u8],
-    from: usize,
-    before: u32,
     out: &mut [u32],
-) -> Progress
-    requires { ⌜ Rules p × (length (now seed) ≤ 65536) × (3 ≤ length (now bytes)) × (from < length (now out)) × (before < 128) ⌝ }
-    ensures answer { λ r. ⌜ standing r ≡ standingAfter from (accept (p .q) (p .zqrej) (length (now (out .entry)) - from) before (candidates (sourceBytes p (now (seed .entry)) counter (length (now (bytes .entry)))))) ⌝ }
-    ensures result { λ _. ⌜ Written from (accept (p .q) (p .zqrej) (length (now (out .entry)) - from) before (candidates (sourceBytes p (now (seed .entry)) counter (length (now (bytes .entry)))))) (now (out .entry)) (now (out .exit)) ⌝ }
+) -> Advance
+    requires { ⌜ Rules p × (length (now seed) ≤ 65536) × (384 ≤ length (now bytes)) × (length (now bytes) ≤ 10158) ⌝ }
+    requires { ⌜ (0 < length (now out)) × (first + 10159 * length (now out) < 2 ^ 32) ⌝ }
+    ensures answer { λ r. ⌜ onward (now (seed .entry)) r
+        ≡ uniformAnswer p (stateAt (now (seed .entry)) first) (length (now (bytes .entry))) (length (now (out .entry))) ⌝ }
+    ensures result { λ _. ⌜ ((xs : List ℕ) →
+        uniform p (stateAt (now (seed .entry)) first) (length (now (bytes .entry))) (length (now (out .entry))) .drawn ≡ taken xs →
+        now (out .exit) ≡ xs) ⌝ }
 {
-    source::source_bytes(p, seed, counter, bytes);
-    continue_draw(bytes, p.q, p.zqrej, from, before, out)
-}
-
-// Goes on with a draw over the block of a counter.
-pub fn draw_block(
-    p: Parameters,
-    seed: &[u8],
-    size: usize,
-    counter: u32,
-    from: usize,
-    before: u32,
-    out: &mut [u32],
-) -> Progress
-    requires { ⌜ Rules p × (length (now seed) ≤ 65536) × (3 ≤ size) × (size ≤ 10158) × (from < length (now out)) × (before < 128) ⌝ }
-    ensures answer { λ r. ⌜ standing r ≡ standingAfter from (accept (p .q) (p .zqrej) (length (now (out .entry)) - from) before (candidates (sourceBytes p (now (seed .entry)) counter size))) ⌝ }
-    ensures result { λ _. ⌜ Written from (accept (p .q) (p .zqrej) (length (now (out .entry)) - from) before (candidates (sourceBytes p (now (seed .entry)) counter size))) (now (out .entry)) (now (out .exit)) ⌝ }
-{
-    let mut bytes = [0u8; 10158];
-    draw_through(p, seed, counter, &mut bytes[0..size], from, before, out)
+    let mut counter = first;
+    let mut done: usize = 0;
+    let mut run: u32 = 0;
+    loop {
+        counter = byte_source::source_bytes(p, seed, counter, bytes);
+        let progress = continue_draw(bytes, p.q, p.zqrej, done, run, out);
+        let Progress::Reached(reached, aside) = progress else {
+            return Advance::Refused(refusal_of(progress));
+        };
+        if reached == out.len() {
+            return Advance::Counter(counter);
+        }
+        done = reached;
+        run = aside;
+    }
 }

@@ -2,12 +2,13 @@
 use sets::Parameters;
 ghost use mathlib.Core.Path.{_≡_};
 ghost use mathlib.Core.List.{List, map};
-ghost use Prim.Native.Nat.{ℕ, _+_, _^_, _≤_, _<_};
+ghost use Prim.Native.Nat.{ℕ, _+_, _*_, _^_, _≤_, _<_};
 ghost use lib.ListN.{length};
 ghost use Rattle.maths.specs.Integer.{residue};
 ghost use Rattle.sets.specs.Rules.{Rules, ByteRules};
-ghost use Rattle.sets.specs.Derived.{multiplierCount};
+ghost use Rattle.sets.specs.Derived.{multiplierCount, errorDrawBytes};
 ghost use Rattle.draws.specs.Uniform.{taken};
+ghost use Rattle.byte_source.specs.Source.{stateAt};
 ghost use Rattle.samplers.specs.Blocks.{onward, refusedBy, uniform, uniformAnswer};
 ghost use Rattle.samplers.specs.Seeded.{errorCount, errorsDrawn, multipliersDrawn};
 
@@ -22,7 +23,7 @@ pub enum Advance {
 
 // The number of a draw's refusal, and 0 where it is none.
 pub fn refusal_of(advance: Advance) -> u8
-    ensures { λ r. ⌜ r ≡ refusedBy (onward advance) ⌝ }
+    ensures { λ r. ⌜ r ≡ refusedBy advance ⌝ }
 {
     match advance {
         Advance::Counter(_) => 0,
@@ -36,7 +37,7 @@ pub enum Progress {
     Refused(u8),
 }
 
-// Draws a uniform residue for each number of `out`, from blocks of `size` bytes, the first of them with the counter `first`.
+// Draws a uniform residue for each number of `out`, from outputs of `size` bytes, the first of them with the counter `first`.
 pub fn residues_from(
     p: Parameters,
     seed: &[u8],
@@ -44,43 +45,42 @@ pub fn residues_from(
     first: u32,
     out: &mut [u32],
 ) -> Advance
-    requires { ⌜ Rules p × (length (now seed) ≤ 65536) × (384 ≤ size) × (size ≤ 10158) × (0 < length (now out)) × (first + length (now out) < 2 ^ 32) ⌝ }
-    ensures answer { λ r. ⌜ onward r ≡ uniformAnswer p (now (seed .entry)) size first (length (now (out .entry))) ⌝ }
-    ensures result { λ _. ⌜ ((xs : List ℕ) → uniform p (now (seed .entry)) size first (length (now (out .entry))) ≡ taken xs → now (out .exit) ≡ xs) ⌝ }
+    requires { ⌜ Rules p × (length (now seed) ≤ 65536) × (384 ≤ size) × (size ≤ 10158) ⌝ }
+    requires { ⌜ (0 < length (now out)) × (first + 10159 * length (now out) < 2 ^ 32) ⌝ }
+    ensures answer { λ r. ⌜ onward (now (seed .entry)) r
+        ≡ uniformAnswer p (stateAt (now (seed .entry)) first) size (length (now (out .entry))) ⌝ }
+    ensures result { λ _. ⌜ ((xs : List ℕ) →
+        uniform p (stateAt (now (seed .entry)) first) size (length (now (out .entry))) .drawn ≡ taken xs → now (out .exit) ≡ xs) ⌝ }
 {
-    let mut counter = first;
-    let mut done: usize = 0;
-    let mut run: u32 = 0;
-    loop {
-        let progress = block::draw_block(p, seed, size, counter, done, run, out);
-        counter += 1;
-        let Progress::Reached(reached, aside) = progress else {
-            return Advance::Refused(block::refusal_of(progress));
-        };
-        if reached == out.len() {
-            return Advance::Counter(counter);
-        }
-        done = reached;
-        run = aside;
-    }
+    let mut bytes = [0u8; 10158];
+    block::residues_with_buffers(p, seed, first, &mut bytes[0..size], out)
 }
 
-// Draws all errors of one key, as residues.
+// How many errors one key has.
+pub fn error_count(p: Parameters) -> usize
+    requires { ⌜ Rules p ⌝ }
+    ensures { λ r. ⌜ (r ≡ errorCount p) × (r ≤ 12790) ⌝ }
+{
+    p.t * (p.d + p.k)
+}
+
+// Draws all errors of one key, as residues, from the output of a counter.
 pub fn errors_from(p: Parameters, seed: &[u8], counter: u32, out: &mut [u32])
     requires { ⌜ Rules p × ByteRules p × (length (now seed) ≤ 65536) × (length (now out) ≡ errorCount p) ⌝ }
-    ensures { λ _. ⌜ now (out .exit) ≡ map (residue (p .q)) (errorsDrawn p (now (seed .entry)) counter) ⌝ }
+    requires { ⌜ counter + errorDrawBytes p + 1 < 2 ^ 32 ⌝ }
+    ensures { λ _. ⌜ now (out .exit) ≡ map (residue (p .q)) (errorsDrawn p (stateAt (now (seed .entry)) counter)) ⌝ }
 {
     let size = small::error_draw_bytes(p);
     let mut bytes = [0u8; 10240];
-    small::errors_through(p, seed, counter, &mut bytes[0..size], out);
+    small::errors_with_buffers(p, seed, counter, &mut bytes[0..size], out);
 }
 
-// Draws all multipliers of one sealing, as residues.
+// Draws all multipliers of one sealing, as residues, from the first output of a seed.
 pub fn multipliers_from(p: Parameters, seed: &[u8], out: &mut [u32])
     requires { ⌜ Rules p × ByteRules p × (length (now seed) ≤ 65536) × (length (now out) ≡ multiplierCount p) ⌝ }
     ensures { λ _. ⌜ now (out .exit) ≡ map (residue (p .q)) (multipliersDrawn p (now (seed .entry))) ⌝ }
 {
     let size = small::multiplier_draw_bytes(p);
     let mut bytes = [0u8; 15232];
-    small::multipliers_through(p, seed, &mut bytes[0..size], out);
+    small::multipliers_with_buffers(p, seed, &mut bytes[0..size], out);
 }

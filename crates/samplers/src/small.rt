@@ -2,12 +2,13 @@
 use sets::Parameters;
 ghost use mathlib.Core.Path.{_≡_};
 ghost use mathlib.Core.List.{map};
-ghost use Prim.Native.Nat.{_≤_, _<_};
+ghost use Prim.Native.Nat.{_+_, _^_, _≤_, _<_};
 ghost use lib.ListN.{length};
 ghost use Rattle.maths.specs.Integer.{residue};
 ghost use Rattle.sets.specs.Rules.{Rules, ByteRules};
 ghost use Rattle.sets.specs.Derived.{multiplierCount, multiplierDrawBytes, errorDrawBytes};
 ghost use Rattle.draws.specs.Small.{errorAt, multiplierAt};
+ghost use Rattle.byte_source.specs.Source.{stateAt};
 ghost use Rattle.samplers.specs.Seeded.{errorCount, errorByte, errorsOf, errorsDrawn, multipliersOf, multipliersDrawn};
 
 // The bytes that all errors of one key are drawn from.
@@ -49,11 +50,18 @@ fn fill_errors(p: Parameters, bytes: &[u8], out: &mut [u32])
 }
 
 // All errors of one key, whose bytes are read into `bytes`.
-pub fn errors_through(p: Parameters, seed: &[u8], counter: u32, bytes: &mut [u8], out: &mut [u32])
-    requires { ⌜ Rules p × ByteRules p × (length (now seed) ≤ 65536) × (length (now bytes) ≡ errorDrawBytes p) × (length (now out) ≡ errorCount p) ⌝ }
-    ensures { λ _. ⌜ now (out .exit) ≡ map (residue (p .q)) (errorsDrawn p (now (seed .entry)) counter) ⌝ }
+pub fn errors_with_buffers(
+    p: Parameters,
+    seed: &[u8],
+    counter: u32,
+    bytes: &mut [u8],
+    out: &mut [u32],
+)
+    requires { ⌜ Rules p × ByteRules p × (length (now seed) ≤ 65536) × (counter + errorDrawBytes p + 1 < 2 ^ 32) ⌝ }
+    requires { ⌜ (length (now bytes) ≡ errorDrawBytes p) × (length (now out) ≡ errorCount p) ⌝ }
+    ensures { λ _. ⌜ now (out .exit) ≡ map (residue (p .q)) (errorsDrawn p (stateAt (now (seed .entry)) counter)) ⌝ }
 {
-    source::source_bytes(p, seed, counter, bytes);
+    byte_source::source_bytes(p, seed, counter, bytes);
     fill_errors(p, bytes, out);
 }
 
@@ -88,10 +96,11 @@ fn fill_multipliers(p: Parameters, bytes: &[u8], out: &mut [u32])
 }
 
 // All multipliers of one sealing, whose bytes are read into `bytes`.
-pub fn multipliers_through(p: Parameters, seed: &[u8], bytes: &mut [u8], out: &mut [u32])
-    requires { ⌜ Rules p × ByteRules p × (length (now seed) ≤ 65536) × (length (now bytes) ≡ multiplierDrawBytes p) × (length (now out) ≡ multiplierCount p) ⌝ }
+pub fn multipliers_with_buffers(p: Parameters, seed: &[u8], bytes: &mut [u8], out: &mut [u32])
+    requires { ⌜ Rules p × ByteRules p × (length (now seed) ≤ 65536) ⌝ }
+    requires { ⌜ (length (now bytes) ≡ multiplierDrawBytes p) × (length (now out) ≡ multiplierCount p) ⌝ }
     ensures { λ _. ⌜ now (out .exit) ≡ map (residue (p .q)) (multipliersDrawn p (now (seed .entry))) ⌝ }
 {
-    source::source_bytes(p, seed, 0, bytes);
+    byte_source::source_bytes(p, seed, 0, bytes);
     fill_multipliers(p, bytes, out);
 }

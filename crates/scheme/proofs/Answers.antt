@@ -1,20 +1,22 @@
--- Laws of the answers: the checks of the set one by one, and what follows once those of the set and of the lengths passed.
+-- Laws of the answers: the checks of the set one by one, what the checks of each call tell where they pass, and what decides the answer.
 -- Assumes nothing.
 use mathlib.Core.Path.{_≡_, refl, _∙_}
-use mathlib.Core.Bool.{Bool, true, false, not, cond}
+use mathlib.Core.Bool.{Bool, true, false, not}
 use mathlib.Core.List.{List}
 use Prim.Native.Nat.{ℕ, _≤_, _<_}
-use borrow.Author.Tests.{lt-ltb, le-ltb, ltb-false, lt-leb, leb-true, not-false}
-use native.Mathlib.Omega.{arith}
-use lib.Dec.{leb, ltb}
+use borrow.Author.Tests.{lt-ltb, le-ltb, ltb-false, eqb-true, not-false}
+use lib.Dec.{ltb}
 use lib.ListN.{length, replicate}
-use Rattle.calls.specs.Outcome.{Outcome, accepted, refused, refuse}
+use Rattle.calls.specs.Outcome.{Outcome, accepted, refused, refuse, andThen}
 use Rattle.calls.specs.Checks.{allOf}
 use Rattle.calls.proofs.Outcome.{accepted-refused, refuse-accepted}
+use Rattle.calls.proofs.Checks.{Each, allOf-each, each-allOf}
 use Rattle.sets.specs.declared.Parameters.{Parameters}
-use Rattle.sets.specs.Derived.{isEncryption, isExchange}
+use Rattle.sets.specs.Table.{setOf, lastSet, noSet}
+use Rattle.sets.specs.Derived.{isEncryption, isExchange, publicKeyBytes, secretKeyBytes, ciphertextBytes}
 use Rattle.scheme.specs.Encryption.{cipherFirst}
-use Rattle.scheme.specs.Answers.{refuseSet, refuseLengths, workLeft, allBelow, secretDraw, readingDraws}
+use Rattle.scheme.specs.Answers.{refuseSet, checks, workLeft, workLength, allBelow, secretDraw, decryptDraws}
+use Rattle.scheme.specs.Answers.{keyChecks, encryptChecks, encapsulateChecks, decryptChecks}
 
 module _ (isOwn : ℕ → Bool) (set : ℕ) (after : Outcome) where
   -- set 0 is no set of the scheme
@@ -23,86 +25,117 @@ module _ (isOwn : ℕ → Bool) (set : ℕ) (after : Outcome) where
   set-low h = rw (lt-ltb set 1 h)
 
   -- nor is a set above 12
-  pub set-high : 1 ≤ set → 12 < set → refuseSet isOwn set after ≡ refused 1 0
+  pub set-high : 1 ≤ set → lastSet < set → refuseSet isOwn set after ≡ refused 1 0
   unfolding refuseSet
-  set-high some h = rw (le-ltb set 1 some, lt-ltb 12 set h)
+  set-high some h = rw (le-ltb set 1 some, lt-ltb lastSet set h)
 
   -- a set of the other scheme
-  pub set-other : 1 ≤ set → set ≤ 12 → isOwn set ≡ false → refuseSet isOwn set after ≡ refused 8 0
+  pub set-other : 1 ≤ set → set ≤ lastSet → isOwn set ≡ false → refuseSet isOwn set after ≡ refused 8 0
   unfolding refuseSet
-  set-other some low e = rw (le-ltb set 1 some, le-ltb 12 set low, e)
+  set-other some low e = rw (le-ltb set 1 some, le-ltb lastSet set low, e)
 
   -- a set of this scheme
-  pub set-own : 1 ≤ set → set ≤ 12 → isOwn set ≡ true → refuseSet isOwn set after ≡ after
+  pub set-own : 1 ≤ set → set ≤ lastSet → isOwn set ≡ true → refuseSet isOwn set after ≡ after
   unfolding refuseSet
-  set-own some low e = rw (le-ltb set 1 some, le-ltb 12 set low, e)
+  set-own some low e = rw (le-ltb set 1 some, le-ltb lastSet set low, e)
 
 module _ (isOwn : ℕ → Bool) (set : ℕ) where
-  -- the three tests of the set, where all passed
-  tests-passed : refuseSet isOwn set accepted ≡ accepted → (ltb set 1 ≡ false) × (ltb 12 set ≡ false) × (not (isOwn set) ≡ false)
+  -- the set is one of the scheme's
+  abbrev pub Own : Type 0
+  Own = (1 ≤ set) × (set ≤ lastSet) × (isOwn set ≡ true)
+
+  -- where the checks of the set passed
+  own : (after : Outcome) → refuseSet isOwn set after ≡ accepted → Own × (after ≡ accepted)
   unfolding refuseSet
-  tests-passed e =
+  own after e =
       let low = refuse-accepted (ltb set 1) 1 0 _ e in
-      let high = refuse-accepted (ltb 12 set) 1 0 _ (low .1) in
-      (low .0, high .0, refuse-accepted (not (isOwn set)) 8 0 _ (high .1) .0)
+      let high = refuse-accepted (noSet set) 1 0 _ (low .1) in
+      let other = refuse-accepted (not (isOwn set)) 8 0 _ (high .1) in
+      ((ltb-false set 1 (low .0), ltb-false lastSet set (high .0), not-false _ (other .0)), other .1)
 
-  -- the set's number and scheme, where the checks of the set passed
-  pub set-range : refuseSet isOwn set accepted ≡ accepted → (1 ≤ set) × (set ≤ 12) × (isOwn set ≡ true)
-  set-range e = let t = tests-passed e in (ltb-false set 1 (t .0), ltb-false 12 set (t .1), not-false _ (t .2))
+  -- the same from the checks of the set alone
+  pub set-range : refuseSet isOwn set accepted ≡ accepted → Own
+  set-range e = own accepted e .0
 
-  -- they leave the answer to what comes after
-  pub set-passed : (after : Outcome) → refuseSet isOwn set accepted ≡ accepted → refuseSet isOwn set after ≡ after
-  unfolding refuseSet
-  set-passed after e = let t = tests-passed e in rw (t .0, t .1, t .2)
+  module _ (lengths : List Bool) where
+    -- the checks of the set refuse
+    pub set-refuses : {number place : ℕ} → refuseSet isOwn set accepted ≡ refused number place → checks isOwn set lengths ≡ refused number place
+    unfolding checks refuseSet
+    set-refuses e = decided (ltb set 1) (noSet set) (not (isOwn set)) e
+      where
+        decided : {number place : ℕ} (low high other : Bool) → refuse low 1 0 (refuse high 1 0 (refuse other 8 0 accepted)) ≡ refused number place
+            → refuse low 1 0 (refuse high 1 0 (refuse other 8 0 (refuse (not (allOf lengths)) 2 0 accepted))) ≡ refused number place
+        decided true high other e = e
+        decided false true other e = e
+        decided false false true e = e
+        decided false false false e = absurd (accepted-refused refl e)
 
-  -- where they refuse, they decide
-  pub set-refused : (after : Outcome) {number place : ℕ} → refuseSet isOwn set accepted ≡ refused number place → refuseSet isOwn set after ≡ refused number place
-  unfolding refuseSet
-  set-refused after e = decided (ltb set 1) (ltb 12 set) (not (isOwn set)) e
-    where
-      decided : {number place : ℕ} (low high other : Bool) → refuse low 1 0 (refuse high 1 0 (refuse other 8 0 accepted)) ≡ refused number place → refuse low 1 0 (refuse high 1 0 (refuse other 8 0 after)) ≡ refused number place
-      decided true high other e = e
-      decided false true other e = e
-      decided false false true e = e
-      decided false false false e = absurd (accepted-refused refl e)
+    -- they pass: the lengths decide
+    pub lengths-decide : Own → checks isOwn set lengths ≡ refuse (not (allOf lengths)) 2 0 accepted
+    unfolding checks
+    lengths-decide own = set-own isOwn set (refuse (not (allOf lengths)) 2 0 accepted) (own .0) (own .1) (own .2)
 
-module _ (isOwn : ℕ → Bool) (set : ℕ) (tests : List Bool) (draws : Outcome) (work : List ℕ) where
-  -- the whole answer of a call, and what it leaves in the work slice
-  abbrev Answered : Outcome → List ℕ → Type 0
-  Answered answer left = (refuseSet isOwn set (refuseLengths tests draws) ≡ answer) × (left ≡ workLeft isOwn set tests work)
+    -- every check passes where the set is the scheme's and each length is the set's
+    pub checks-pass : Own → Each lengths → checks isOwn set lengths ≡ accepted
+    checks-pass own each = lengths-decide own ∙ rw (each-allOf lengths each)
 
-  -- the set refuses
-  pub by-set : {number place : ℕ} → refuseSet isOwn set accepted ≡ refused number place → Answered (refused number place) work
+    -- and only there
+    pub checks-passed : checks isOwn set lengths ≡ accepted → Own × Each lengths
+    unfolding checks
+    checks-passed e =
+        let o = own _ e in
+        (o .0, allOf-each lengths (not-false _ (refuse-accepted (not (allOf lengths)) 2 0 _ (o .1) .0)))
+
+-- what the checks of key tell where they pass
+pub key-passed : (isOwn : ℕ → Bool) (set seed pk sk work : ℕ) → keyChecks isOwn set seed pk sk work ≡ accepted
+    → Own isOwn set × (seed ≡ 32) × (pk ≡ publicKeyBytes (setOf set)) × (sk ≡ secretKeyBytes set) × (work ≡ workLength (setOf set))
+unfolding keyChecks
+key-passed isOwn set seed pk sk work e =
+    let t = checks-passed isOwn set _ e in
+    (t .0, eqb-true _ _ (t .1 .0), eqb-true _ _ (t .1 .1 .0), eqb-true _ _ (t .1 .1 .1 .0), eqb-true _ _ (t .1 .1 .1 .1 .0))
+
+-- those of encrypt
+pub encrypt-passed : (set pk message seed ct work : ℕ) → encryptChecks set pk message seed ct work ≡ accepted
+    → Own isEncryption set × (pk ≡ publicKeyBytes (setOf set)) × (message ≡ 32) × (seed ≡ 32) × (ct ≡ ciphertextBytes set) × (work ≡ workLength (setOf set))
+unfolding encryptChecks
+encrypt-passed set pk message seed ct work e =
+    let t = checks-passed isEncryption set _ e in
+    (t .0, eqb-true _ _ (t .1 .0), eqb-true _ _ (t .1 .1 .0), eqb-true _ _ (t .1 .1 .1 .0), eqb-true _ _ (t .1 .1 .1 .1 .0), eqb-true _ _ (t .1 .1 .1 .1 .1 .0))
+
+-- those of encapsulate
+pub encapsulate-passed : (set pk message ct shared work : ℕ) → encapsulateChecks set pk message ct shared work ≡ accepted
+    → Own isExchange set × (pk ≡ publicKeyBytes (setOf set)) × (message ≡ 32) × (ct ≡ ciphertextBytes set) × (shared ≡ 32) × (work ≡ workLength (setOf set))
+unfolding encapsulateChecks
+encapsulate-passed set pk message ct shared work e =
+    let t = checks-passed isExchange set _ e in
+    (t .0, eqb-true _ _ (t .1 .0), eqb-true _ _ (t .1 .1 .0), eqb-true _ _ (t .1 .1 .1 .0), eqb-true _ _ (t .1 .1 .1 .1 .0), eqb-true _ _ (t .1 .1 .1 .1 .1 .0))
+
+-- those of decrypt and of decapsulate
+pub decrypt-passed : (isOwn : ℕ → Bool) (set sk ct given work : ℕ) → decryptChecks isOwn set sk ct given work ≡ accepted
+    → Own isOwn set × (sk ≡ secretKeyBytes set) × (ct ≡ ciphertextBytes set) × (given ≡ 32) × (work ≡ workLength (setOf set))
+unfolding decryptChecks
+decrypt-passed isOwn set sk ct given work e =
+    let t = checks-passed isOwn set _ e in
+    (t .0, eqb-true _ _ (t .1 .0), eqb-true _ _ (t .1 .1 .0), eqb-true _ _ (t .1 .1 .1 .0), eqb-true _ _ (t .1 .1 .1 .1 .0))
+
+module _ {checked : Outcome} (draws : Outcome) (work : List ℕ) where
+  -- the checks refuse: they decide the answer, and the work slice is left as it was
+  pub by-checks : {number place : ℕ} → checked ≡ refused number place → (andThen checked draws ≡ refused number place) × (work ≡ workLeft checked work)
   unfolding workLeft
-  by-set e = (set-refused isOwn set _ e, rw (set-refused isOwn set (refuseLengths tests accepted) e))
-
-  -- a length refuses
-  pub by-lengths : refuseSet isOwn set accepted ≡ accepted → allOf tests ≡ false → Answered (refused 2 0) work
-  unfolding workLeft
-  by-lengths e l = (set-passed isOwn set _ e ∙ rw l, rw (set-passed isOwn set (refuseLengths tests accepted) e, l))
+  by-checks e = (rw e, rw e)
 
   -- the draws decide, and the work slice is cleared
-  pub by-draws : refuseSet isOwn set accepted ≡ accepted → allOf tests ≡ true → {left : List ℕ} → left ≡ replicate (length work) 0 → Answered draws left
+  pub by-draws : checked ≡ accepted → {left : List ℕ} → left ≡ replicate (length work) 0 → (andThen checked draws ≡ draws) × (left ≡ workLeft checked work)
   unfolding workLeft
-  by-draws e l cleared = (set-passed isOwn set _ e ∙ rw l, cleared ∙ rw (set-passed isOwn set (refuseLengths tests accepted) e, l))
-
--- an encryption set is no exchange set
-pub encryption-only : (set : ℕ) → isEncryption set ≡ true → isExchange set ≡ false
-unfolding isEncryption isExchange
-encryption-only set e = picked (leb 1 set) (leb set 6) refl refl e
-  where
-    picked : (some low : Bool) → leb 1 set ≡ some → leb set 6 ≡ low → cond some low false ≡ true → cond (leb 7 set) (leb set 12) false ≡ false
-    picked true true s l e = rw (lt-leb 7 set (omega (arith, leb-true set 6 l)))
-    picked true false s l e = let z : _≡_ {A = ℕ} 0 1 = cc in absurd (omega arith)
-    picked false low s l e = let z : _≡_ {A = ℕ} 0 1 = cc in absurd (omega arith)
+  by-draws e cleared = (rw e, cleared ∙ rw e)
 
 module _ (p : Parameters) (sk ct : List ℕ) where
   -- a number of c1 is too large
-  pub reading-refused : allBelow (p .q) (cipherFirst p ct) ≡ false → readingDraws p sk ct ≡ refused 3 0
-  unfolding readingDraws
+  pub reading-refused : allBelow (p .q) (cipherFirst p ct) ≡ false → decryptDraws p sk ct ≡ refused 3 0
+  unfolding decryptDraws
   reading-refused e = rw e
 
   -- none is
-  pub reading-passed : allBelow (p .q) (cipherFirst p ct) ≡ true → readingDraws p sk ct ≡ secretDraw p sk
-  unfolding readingDraws
+  pub reading-passed : allBelow (p .q) (cipherFirst p ct) ≡ true → decryptDraws p sk ct ≡ secretDraw p sk
+  unfolding decryptDraws
   reading-passed e = rw e

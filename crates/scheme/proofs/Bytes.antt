@@ -15,16 +15,19 @@ use Rattle.maths.proofs.Transform.{send-length, send-at, recover-send, recover-
 use Rattle.calls.specs.Region.{vector, joined}
 use Rattle.calls.proofs.Region.{joined-length, vector-joined, joined-each}
 use Rattle.sets.specs.declared.Parameters.{Parameters}
-use Rattle.sets.specs.Derived.{transformRoot, packedBytes, publicKeyBytes, sealedBytes}
+use Rattle.sets.specs.Derived.{transformRoot, packedBytes, publicKeyBytes, cpaCiphertextBytes}
 use Rattle.packing.specs.Digits.{pack, unpack, Digit}
 use Rattle.packing.specs.Dropped.{chop, packDropping, unpackDropped}
 use Rattle.packing.proofs.Laws.{unpack-pack, pack-length, unpackDropped-packDropping, packDropping-length}
-use Rattle.transformed.specs.Stored.{rowCount, rootInverse, sent, sentInverse, recovered, recoveredInverse}
-use Rattle.source.proofs.Laws.{sourceBytes-length}
-use Rattle.scheme.specs.Encryption.{secretSeed, publicSeed, publicPolynomial, publicVector, publicKey, keySeed, keyNumbers, keyPolynomial, multiplierVector, firstNumbers, sealedNumbers, firstBytes, secondBytes, ciphertext, cipherFirst, cipherSecond}
+use Rattle.ntt_products.specs.Stored.{rowCount, rootInverse, sent, sentInverse, recoveredInverse, recovered}
+use Rattle.byte_source.specs.Source.{initial, output}
+use Rattle.byte_source.proofs.Laws.{output-length}
+use Rattle.scheme.specs.Encryption.{secretSeed, publicSeed, publicPolynomial, publicVector, publicKey, keySeed, keyNumbers, keyPolynomial}
+use Rattle.scheme.specs.Encryption.{multiplierVector, firstNumbers, encryptedNumbers, firstBytes, secondBytes, ciphertext, cipherFirst, cipherSecond}
 use Rattle.scheme.specs.Conditions.{Conditions}
 use Rattle.scheme.proofs.Conditions.{positive, root, size1, size2}
-use Rattle.scheme.proofs.Places.{publicVector-length, publicVector-at, firstNumbers-length, firstNumbers-at, sealedNumbers-length, sealedNumbers-at}
+use Rattle.scheme.proofs.Places.{publicVector-length, publicVector-at, firstNumbers-length, firstNumbers-at}
+use Rattle.scheme.proofs.Places.{encryptedNumbers-length, encryptedNumbers-at}
 
 -- the bytes of packed numbers hold all their bits
 packed-fits : (count bits : ℕ) → bits * count ≤ 8 * packedBytes count bits
@@ -34,7 +37,8 @@ packed-fits count bits = omega arith
 -- what is unpacked is what was packed, where count is how many numbers there are
 unpack-packed : (width count : ℕ) (xs : List ℕ) → length xs ≡ count → Digit width xs → unpack width count (pack width (packedBytes count width) xs) ≡ xs
 unpack-packed width count xs size digit =
-    ap (λ (n : ℕ). unpack width n (pack width (packedBytes count width) xs)) (sym size) ∙ unpack-pack width (packedBytes count width) xs digit (rw size (packed-fits count width))
+    ap (λ (n : ℕ). unpack width n (pack width (packedBytes count width) xs)) (sym size)
+    ∙ unpack-pack width (packedBytes count width) xs digit (rw size (packed-fits count width))
 
 -- the same where low bits are dropped
 unpack-dropped : (width cmp count : ℕ) (xs : List ℕ) → length xs ≡ count → cmp ≤ width → Digit width xs
@@ -50,6 +54,15 @@ below-everywhere n b xs some size below j =
       | yes inside ↦ below j inside
       | no past ↦ rw (at-past xs j (omega arith)) some
     ]
+
+-- a seed has 32 bytes
+pub secretSeed-length : (p : Parameters) (seed : List ℕ) → length (secretSeed p seed) ≡ 32
+unfolding secretSeed
+secretSeed-length p seed = output-length p (initial seed) 32
+
+pub publicSeed-length : (p : Parameters) (seed : List ℕ) → length (publicSeed p seed) ≡ 32
+unfolding publicSeed
+publicSeed-length p seed = output-length p (output p (initial seed) 32 .next) 32
 
 module _ {p : Parameters} (c : Conditions p) where
   -- residues have width bits
@@ -81,13 +94,14 @@ module _ {p : Parameters} (c : Conditions p) where
   sent-below xs j = send-below 2 (transformRoot p 2) xs j
 
   -- what is stored comes back
-  recovered-sentInverse : (m : ℕ) (xs : List ℕ) → length xs ≡ m → m ≤ p .d1 → ((j : ℕ) → j < m → at xs j < p .q) → recovered p 1 m (sentInverse p 1 xs) ≡ xs
-  unfolding recovered sentInverse
-  recovered-sentInverse m xs size fits below = recover-send-inverse (p .row) (rowCount p 1) (root c 1) m xs size (rw (size1 c) fits) below
+  recoveredInverse-sentInverse : (m : ℕ) (xs : List ℕ) → length xs ≡ m → m ≤ p .d1 → ((j : ℕ) → j < m → at xs j < p .q)
+      → recoveredInverse p 1 m (sentInverse p 1 xs) ≡ xs
+  unfolding recoveredInverse sentInverse
+  recoveredInverse-sentInverse m xs size fits below = recover-send-inverse (p .row) (rowCount p 1) (root c 1) m xs size (rw (size1 c) fits) below
 
-  recoveredInverse-sent : (m : ℕ) (xs : List ℕ) → length xs ≡ m → m ≤ p .d2 → ((j : ℕ) → j < m → at xs j < p .q) → recoveredInverse p 2 m (sent p 2 xs) ≡ xs
-  unfolding recoveredInverse sent
-  recoveredInverse-sent m xs size fits below = recover-send (p .row) (rowCount p 2) (root c 2) m xs size (rw (size2 c) fits) below
+  recovered-sent : (m : ℕ) (xs : List ℕ) → length xs ≡ m → m ≤ p .d2 → ((j : ℕ) → j < m → at xs j < p .q) → recovered p 2 m (sent p 2 xs) ≡ xs
+  unfolding recovered sent
+  recovered-sent m xs size fits below = recover-send (p .row) (rowCount p 2) (root c 2) m xs size (rw (size2 c) fits) below
 
   module _ (seed : List ℕ) where
     -- b̂_i as it is stored in a public key
@@ -96,19 +110,19 @@ module _ {p : Parameters} (c : Conditions p) where
 
     -- how many bytes a public key has
     pub publicKey-length : length (publicKey p seed) ≡ publicKeyBytes p
-    unfolding publicKey publicSeed publicKeyBytes
-    publicKey-length = rw (length-append, sourceBytes-length p seed 1 32, pack-length)
+    unfolding publicKey publicKeyBytes
+    publicKey-length = rw (length-append, publicSeed-length p seed, pack-length)
 
     -- the seed in a public key
     pub keySeed-back : keySeed (publicKey p seed) ≡ publicSeed p seed
-    unfolding keySeed publicKey publicSeed
-    keySeed-back = take-at (publicSeed p seed) _ 32 (sourceBytes-length p seed 1 32)
+    unfolding keySeed publicKey
+    keySeed-back = take-at (publicSeed p seed) _ 32 (publicSeed-length p seed)
 
     -- the numbers in a public key
     keyNumbers-back : keyNumbers p (publicKey p seed) ≡ joined (p .t) stored
     unfolding keyNumbers publicKey
     keyNumbers-back =
-        ap (unpack (p .width) (p .d1 * p .t)) (drop-at (publicSeed p seed) _ 32 (unfold publicSeed in sourceBytes-length p seed 1 32))
+        ap (unpack (p .width) (p .d1 * p .t)) (drop-at (publicSeed p seed) _ 32 (publicSeed-length p seed))
         ∙ unpack-packed (p .width) (p .d1 * p .t) (joined (p .t) stored) (joined-length (p .d1) (p .t) stored (λ i h. sentInverse-length _))
         (residues-digit (joined (p .t) stored) (joined-each (λ x. x < p .q) 0 (positive c) (p .t) stored (λ i j h. sentInverse-below _ j)))
 
@@ -124,22 +138,25 @@ module _ {p : Parameters} (c : Conditions p) where
     pub keyPolynomial-back : (i : ℕ) → i < p .t → keyPolynomial p (publicKey p seed) i ≡ publicVector p (secretSeed p seed) (publicSeed p seed) i
     unfolding keyPolynomial
     keyPolynomial-back i h =
-        ap (recovered p 1 (p .d + p .k)) (keyVector-back i h)
-        ∙ recovered-sentInverse (p .d + p .k) _ (publicVector-length p (secretSeed p seed) (publicSeed p seed) i) (c .holds1)
+        ap (recoveredInverse p 1 (p .d + p .k)) (keyVector-back i h)
+        ∙ recoveredInverse-sentInverse (p .d + p .k) _ (publicVector-length p (secretSeed p seed) (publicSeed p seed) i) (c .holds1)
         (λ j l. rw (publicVector-at p (secretSeed p seed) (publicSeed p seed) i j l) (mod-lt _ (positive c)))
 
   module _ (pk message seedr : List ℕ) where
     -- how many bytes a ciphertext has
-    pub ciphertext-length : length (ciphertext p pk message seedr) ≡ sealedBytes p
-    unfolding ciphertext firstBytes secondBytes sealedBytes
+    pub ciphertext-length : length (ciphertext p pk message seedr) ≡ cpaCiphertextBytes p
+    unfolding ciphertext firstBytes secondBytes cpaCiphertextBytes
     ciphertext-length = rw (length-append, pack-length, packDropping-length)
 
     -- ĉ1 from a ciphertext
-    pub cipherFirst-back : cipherFirst p (ciphertext p pk message seedr) ≡ sent p 2 (firstNumbers p (multiplierVector p seedr) (publicPolynomial p (keySeed pk)))
+    pub cipherFirst-back :
+        cipherFirst p (ciphertext p pk message seedr)
+        ≡ sent p 2 (firstNumbers p (multiplierVector p seedr) (publicPolynomial p (keySeed pk)))
     unfolding cipherFirst ciphertext firstBytes
     cipherFirst-back =
         let first : List ℕ = firstNumbers p (multiplierVector p seedr) (publicPolynomial p (keySeed pk)) in
-        ap (unpack (p .width) (p .d2)) (take-at (pack (p .width) (packedBytes (p .d2) (p .width)) (sent p 2 first)) _ (packedBytes (p .d2) (p .width)) (pack-length (p .width) _ _))
+        ap (unpack (p .width) (p .d2))
+        (take-at (pack (p .width) (packedBytes (p .d2) (p .width)) (sent p 2 first)) _ (packedBytes (p .d2) (p .width)) (pack-length (p .width) _ _))
         ∙ unpack-packed (p .width) (p .d2) (sent p 2 first) (sent-length first) (residues-digit (sent p 2 first) (sent-below first))
 
     -- its numbers are residues
@@ -147,24 +164,29 @@ module _ {p : Parameters} (c : Conditions p) where
     cipherFirst-below j = rw cipherFirst-back (sent-below _ j)
 
     -- c1' from a ciphertext
-    pub firstNumbers-back : recoveredInverse p 2 (p .n + p .k) (cipherFirst p (ciphertext p pk message seedr)) ≡ firstNumbers p (multiplierVector p seedr) (publicPolynomial p (keySeed pk))
+    pub firstNumbers-back :
+        recovered p 2 (p .n + p .k) (cipherFirst p (ciphertext p pk message seedr))
+        ≡ firstNumbers p (multiplierVector p seedr) (publicPolynomial p (keySeed pk))
     firstNumbers-back =
-        ap (recoveredInverse p 2 (p .n + p .k)) cipherFirst-back
-        ∙ recoveredInverse-sent (p .n + p .k) _ (firstNumbers-length p _ _) (c .holds2) (λ j l. rw (firstNumbers-at p _ _ j l) (mod-lt _ (positive c)))
+        ap (recovered p 2 (p .n + p .k)) cipherFirst-back
+        ∙ recovered-sent (p .n + p .k) _ (firstNumbers-length p _ _) (c .holds2) (λ j l. rw (firstNumbers-at p _ _ j l) (mod-lt _ (positive c)))
 
     -- number j of c2' is a residue
-    pub sealedNumbers-below : (j : ℕ) → at (sealedNumbers p pk message seedr) j < p .q
-    sealedNumbers-below =
-        below-everywhere (p .d) (p .q) (sealedNumbers p pk message seedr) (positive c) (sealedNumbers-length p pk message seedr)
-        (λ j h. rw (sealedNumbers-at p pk message seedr j h) (mod-lt _ (positive c)))
+    pub encryptedNumbers-below : (j : ℕ) → at (encryptedNumbers p pk message seedr) j < p .q
+    encryptedNumbers-below =
+        below-everywhere (p .d) (p .q) (encryptedNumbers p pk message seedr) (positive c) (encryptedNumbers-length p pk message seedr)
+        (λ j h. rw (encryptedNumbers-at p pk message seedr j h) (mod-lt _ (positive c)))
 
     -- c2 from a ciphertext: each number of c2' without what packing dropped
-    cipherSecond-back : cipherSecond p (ciphertext p pk message seedr) ≡ map (chop (p .cmp)) (sealedNumbers p pk message seedr)
+    cipherSecond-back : cipherSecond p (ciphertext p pk message seedr) ≡ map (chop (p .cmp)) (encryptedNumbers p pk message seedr)
     unfolding cipherSecond ciphertext firstBytes secondBytes
     cipherSecond-back =
-        ap (unpackDropped (p .width) (p .cmp) (p .d)) (drop-at (pack (p .width) (packedBytes (p .d2) (p .width)) _) _ (packedBytes (p .d2) (p .width)) (pack-length (p .width) _ _))
-        ∙ unpack-dropped (p .width) (p .cmp) (p .d) (sealedNumbers p pk message seedr) (sealedNumbers-length p pk message seedr) (c .kept) (residues-digit (sealedNumbers p pk message seedr) sealedNumbers-below)
+        ap (unpackDropped (p .width) (p .cmp) (p .d))
+        (drop-at (pack (p .width) (packedBytes (p .d2) (p .width)) _) _ (packedBytes (p .d2) (p .width)) (pack-length (p .width) _ _))
+        ∙ unpack-dropped (p .width) (p .cmp) (p .d) (encryptedNumbers p pk message seedr) (encryptedNumbers-length p pk message seedr) (c .kept)
+        (residues-digit (encryptedNumbers p pk message seedr) encryptedNumbers-below)
 
     -- number j of c2
-    pub cipherSecond-at : (j : ℕ) → j < p .d → at (cipherSecond p (ciphertext p pk message seedr)) j ≡ chop (p .cmp) (at (sealedNumbers p pk message seedr) j)
-    cipherSecond-at j h = rw cipherSecond-back (map-at (chop (p .cmp)) (sealedNumbers p pk message seedr) j (rw sealedNumbers-length h))
+    pub cipherSecond-at : (j : ℕ) → j < p .d
+        → at (cipherSecond p (ciphertext p pk message seedr)) j ≡ chop (p .cmp) (at (encryptedNumbers p pk message seedr) j)
+    cipherSecond-at j h = rw cipherSecond-back (map-at (chop (p .cmp)) (encryptedNumbers p pk message seedr) j (rw encryptedNumbers-length h))

@@ -20,12 +20,12 @@ use Rattle.packing.specs.Digits.{Digit}
 use Rattle.packing.specs.Message.{messageBits, messageBytes}
 use Rattle.packing.proofs.Laws.{messageBits-below, messageBits-length, messageBits-messageBytes, messageBytes-messageBits, messageBytes-length}
 use Rattle.packing.proofs.Laws.{messageBytes-below}
-use Rattle.scheme.specs.Encryption.{secretSeed, publicKey, ciphertext, openedNumber, readBits, readMessage}
+use Rattle.scheme.specs.Encryption.{secretSeed, publicKey, ciphertext, decryptedNumber, decryptedBits, decryptedMessage}
 use Rattle.scheme.specs.Noise.{noise}
 use Rattle.scheme.specs.Conditions.{Conditions}
 use Rattle.scheme.specs.Bits.{messageBit, messageRead}
 use Rattle.scheme.proofs.Conditions.{positive}
-use Rattle.scheme.proofs.Places.{readBits-length, readBits-at, readBits-below, openedNumber-below}
+use Rattle.scheme.proofs.Places.{decryptedBits-length, decryptedBits-at, decryptedBits-below, decryptedNumber-below}
 use Rattle.scheme.proofs.Noise.{noisy}
 
 -- a bit is 0 or 1
@@ -35,12 +35,13 @@ messageBit-bit p message j = omega (arith, messageBits-below (p .d) message j)
 
 module _ {p : Parameters} (c : Conditions p) where
   -- the bits of the message read are the bits read
-  pub readMessage-bits : (seedsk ct : List ℕ) → messageBits (p .d) (readMessage p seedsk ct) ≡ readBits p seedsk ct
-  unfolding readMessage
-  readMessage-bits seedsk ct =
-      let bits : List ℕ = readBits p seedsk ct in
-      let size : length bits ≡ p .d = readBits-length p seedsk ct in
-      ap (λ (n : ℕ). messageBits n (messageBytes 32 bits)) (sym size) ∙ messageBits-messageBytes 32 bits (readBits-below p seedsk ct) (omega (arith, c .message-bits))
+  pub decryptedMessage-bits : (seedsk ct : List ℕ) → messageBits (p .d) (decryptedMessage p seedsk ct) ≡ decryptedBits p seedsk ct
+  unfolding decryptedMessage
+  decryptedMessage-bits seedsk ct =
+      let bits : List ℕ = decryptedBits p seedsk ct in
+      let size : length bits ≡ p .d = decryptedBits-length p seedsk ct in
+      ap (λ (n : ℕ). messageBits n (messageBytes 32 bits)) (sym size)
+      ∙ messageBits-messageBytes 32 bits (decryptedBits-below p seedsk ct) (omega (arith, c .message-bits))
 
   -- a message of 32 bytes comes back from its bits
   bits-back : (message : List ℕ) → length message ≡ 32 → Digit 8 message → messageBytes 32 (messageBits (p .d) message) ≡ message
@@ -61,18 +62,20 @@ module _ {p : Parameters} (c : Conditions p) where
 
   module _ (seed message seedr : List ℕ) where
     -- the bit read at place j is 003's rounding of c' there
-    bit-rounds : (j : ℕ) → j < p .d → messageBit p (messageRead p seed message seedr) j ≡ centredBit (halfModulus p) (openedNumber p (secretSeed p seed) (ciphertext p (publicKey p seed) message seedr) j)
+    bit-rounds : (j : ℕ) → j < p .d → messageBit p (messageRead p seed message seedr) j ≡ centredBit (halfModulus p)
+        (decryptedNumber p (secretSeed p seed) (ciphertext p (publicKey p seed) message seedr) j)
     unfolding messageBit messageRead
     bit-rounds j inside =
         let ct : List ℕ = ciphertext p (publicKey p seed) message seedr in
-        ap (λ (bits : List ℕ). at bits j) (readMessage-bits (secretSeed p seed) ct) ∙ readBits-at p (secretSeed p seed) ct j inside
+        ap (λ (bits : List ℕ). at bits j) (decryptedMessage-bits (secretSeed p seed) ct) ∙ decryptedBits-at p (secretSeed p seed) ct j inside
 
     -- c' there is the residue of the noise plus h times the bit sent
     opened-noisy : (j : ℕ) → j < p .d
-        → openedNumber p (secretSeed p seed) (ciphertext p (publicKey p seed) message seedr) j ≡ (residue (p .q) (noise p seed message seedr j) + halfModulus p * messageBit p message j) % p .q
+        → decryptedNumber p (secretSeed p seed) (ciphertext p (publicKey p seed) message seedr)
+        j ≡ (residue (p .q) (noise p seed message seedr j) + halfModulus p * messageBit p message j) % p .q
     opened-noisy j inside =
         let ct : List ℕ = ciphertext p (publicKey p seed) message seedr in
-        sym (mod-eq-of-lt (openedNumber-below p (secretSeed p seed) ct j (positive c))) ∙ noisy c seed message seedr j inside .same
+        sym (mod-eq-of-lt (decryptedNumber-below p (secretSeed p seed) ct j (positive c))) ∙ noisy c seed message seedr j inside .same
 
     -- the claim at a place: key, encryption and decryption, from the two seeds and the message to the message read
     pub claim : (j : ℕ) → j < p .d
@@ -83,8 +86,10 @@ module _ {p : Parameters} (c : Conditions p) where
         (opened-noisy j inside) (halfModulus p / 2) (c .even-half))
 
     -- a message of 32 bytes comes back whole where twice the size of the noise is below h at every place
-    pub returned : length message ≡ 32 → Digit 8 message → ((j : ℕ) → j < p .d → 2 * natAbs (noise p seed message seedr j) < halfModulus p) → messageRead p seed message seedr ≡ message
-    unfolding messageRead readMessage
+    pub returned : length message ≡ 32 → Digit 8 message → ((j : ℕ) → j < p .d → 2 * natAbs (noise p seed message seedr j) < halfModulus p)
+        → messageRead p seed message seedr ≡ message
+    unfolding messageRead decryptedMessage
     returned size bytes small =
-        let bits : List ℕ = readBits p (secretSeed p seed) (ciphertext p (publicKey p seed) message seedr) in
-        same-message message (messageRead p seed message seedr) size bytes (messageBytes-length 32 bits) (messageBytes-below 32 bits) (λ j inside. claim j inside .reads (small j inside))
+        let bits : List ℕ = decryptedBits p (secretSeed p seed) (ciphertext p (publicKey p seed) message seedr) in
+        same-message message (messageRead p seed message seedr) size bytes (messageBytes-length 32 bits) (messageBytes-below 32 bits)
+        (λ j inside. claim j inside .reads (small j inside))

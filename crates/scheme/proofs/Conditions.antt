@@ -6,13 +6,13 @@ use native.Mathlib.Decide.{ℕ-discrete}
 use native.Mathlib.Omega.{arith}
 use Rattle.maths.specs.Root.{Root, RootOfOrder}
 use Rattle.sets.specs.declared.Parameters.{Parameters}
-use Rattle.sets.specs.Table.{setOf}
+use Rattle.sets.specs.Table.{setOf, IsSet}
 use Rattle.sets.specs.Derived.{transformSize, transformRoot}
 use Rattle.sets.specs.Rules.{Rules, ByteRules}
 use Rattle.sets.proofs.Rules.{rules, byteRules}
 use Rattle.sets.proofs.Transforms.{size-first, size-second, size-third}
 use Rattle.roots.proofs.Laws as roots
-use Rattle.transformed.specs.Stored.{rowCount, rootInverse, sizeInverse}
+use Rattle.ntt_products.specs.Stored.{rowCount, rootInverse, sizeInverse}
 use Rattle.scheme.specs.Conditions.{Conditions}
 
 -- parameters that keep the rules meet the conditions
@@ -42,7 +42,7 @@ conditions p rules bytes roots =
         ]
 
 -- sets 1 to 12 meet the conditions
-pub set-conditions : (set : ℕ) → 1 ≤ set → set < 13 → Conditions (setOf set)
+pub set-conditions : (set : ℕ) → 1 ≤ set → IsSet set → Conditions (setOf set)
 set-conditions set some low = conditions (setOf set) (rules set low) (byteRules set some low) (roots.root set low)
 
 module _ {p : Parameters} (c : Conditions p) where

@@ -20,17 +20,19 @@ use Rattle.sets.specs.declared.Parameters.{Parameters}
 use Rattle.sets.specs.Derived.{halfModulus}
 use Rattle.packing.proofs.Laws.{chop-dropped, dropped-below}
 use Rattle.samplers.specs.Seeded.{multipliersDrawn}
-use Rattle.transformed.specs.Stored.{recoveredInverse}
-use Rattle.scheme.specs.Encryption.{secretSeed, publicSeed, secret, publicPolynomial, errors, residueVector, publicKey, keyPolynomial, multiplierVector, firstNumbers, sealedNumbers, ciphertext, cipherFirst, cipherSecond, openedNumber}
+use Rattle.ntt_products.specs.Stored.{recovered}
+use Rattle.scheme.specs.Encryption.{secretSeed, publicSeed, secret, publicPolynomial, errors, residueVector, publicKey, keyPolynomial, multiplierVector}
+use Rattle.scheme.specs.Encryption.{firstNumbers, encryptedNumbers, ciphertext, cipherFirst, cipherSecond, decryptedNumber}
 use Rattle.scheme.specs.Noise.{productNoise, droppedNoise, noise}
 use Rattle.scheme.specs.Conditions.{Conditions}
 use Rattle.scheme.specs.Bits.{messageBit}
 use Rattle.scheme.proofs.Conditions.{positive}
-use Rattle.scheme.proofs.Places.{residueVector-at, multiplierVector-past, publicPolynomial-past, publicVector-at, firstNumbers-at, sealedNumbers-at}
-use Rattle.scheme.proofs.Bytes.{keySeed-back, keyPolynomial-back, firstNumbers-back, sealedNumbers-below, cipherSecond-at}
+use Rattle.scheme.proofs.Places.{residueVector-at, multiplierVector-past, publicPolynomial-past, publicVector-at, firstNumbers-at, encryptedNumbers-at}
+use Rattle.scheme.proofs.Bytes.{keySeed-back, keyPolynomial-back, firstNumbers-back, encryptedNumbers-below, cipherSecond-at}
 
 -- the residue of a correlation of whole numbers
-correlationℤ-residue : (q n : ℕ) (x y : List ℤ) (j : ℕ) → 0 < q → Mod q (residue q (correlationℤ n x y j)) (sum n (λ l. residue q (getD x l (pos 0)) * residue q (getD y (j + l) (pos 0))))
+correlationℤ-residue : (q n : ℕ) (x y : List ℤ) (j : ℕ) → 0 < q
+    → Mod q (residue q (correlationℤ n x y j)) (sum n (λ l. residue q (getD x l (pos 0)) * residue q (getD y (j + l) (pos 0))))
 unfolding correlationℤ
 correlationℤ-residue q n x y j h =
     mod-trans (mod-eq (residue-sumℤ q n _ h))
@@ -38,15 +40,18 @@ correlationℤ-residue q n x y j h =
 
 -- a correlation of vectors of whole numbers, as residues
 correlation-residues : (p : Parameters) (r e : List ℤ) (i j : ℕ) → 0 < p .q → j < p .d
-    → Mod (p .q) (residue (p .q) (correlationℤ (p .k + 1) (vector (p .k + 1) r i) (vector (p .d + p .k) e i) j)) (correlation (p .k + 1) (at (residueVector p (p .k + 1) r i)) (at (residueVector p (p .d + p .k) e i)) j)
+    → Mod (p .q) (residue (p .q) (correlationℤ (p .k + 1) (vector (p .k + 1) r i) (vector (p .d + p .k) e i) j))
+    (correlation (p .k + 1) (at (residueVector p (p .k + 1) r i)) (at (residueVector p (p .d + p .k) e i)) j)
 unfolding correlation
 correlation-residues p r e i j h inside =
     mod-trans (correlationℤ-residue (p .q) (p .k + 1) _ _ j h)
-    (mod-sum (p .k + 1) _ _ (λ l k. mod-mul (mod-eq (sym (residueVector-at p (p .k + 1) r i l k))) (mod-eq (sym (residueVector-at p (p .d + p .k) e i (j + l) (omega arith))))))
+    (mod-sum (p .k + 1) _ _ (λ l k. mod-mul (mod-eq (sym (residueVector-at p (p .k + 1) r i l k)))
+    (mod-eq (sym (residueVector-at p (p .d + p .k) e i (j + l) (omega arith))))))
 
 -- the residue of the products' part of the noise
 productNoise-residue : (p : Parameters) (r e : List ℤ) (j : ℕ) → 0 < p .q → j < p .d
-    → Mod (p .q) (residue (p .q) (productNoise p r e j)) (sum (p .t) (λ i. correlation (p .k + 1) (at (residueVector p (p .k + 1) r i)) (at (residueVector p (p .d + p .k) e i)) j))
+    → Mod (p .q) (residue (p .q) (productNoise p r e j)) (sum (p .t)
+    (λ i. correlation (p .k + 1) (at (residueVector p (p .k + 1) r i)) (at (residueVector p (p .d + p .k) e i)) j))
 unfolding productNoise
 productNoise-residue p r e j h inside =
     mod-trans (mod-eq (residue-sumℤ (p .q) (p .t) _ h))
@@ -59,32 +64,36 @@ mod-difference q a x h =
     mod-trans (mod-add (mod-remainder q (a + (q - x))) (mod-refl x)) (mod-trans (mod-eq whole) (mod-add-multiple q a 1))
 
 -- the part of the bits dropped, and the number before packing, make the number recovered
-droppedNoise-residue : (p : Parameters) (recovered before : List ℕ) (j : ℕ) → p .q ≡ 2 * halfModulus p + 1 → at before j ≤ p .q
-    → Mod (p .q) (residue (p .q) (droppedNoise p recovered before j) + at before j) (at recovered j)
+droppedNoise-residue : (p : Parameters) (unpacked before : List ℕ) (j : ℕ) → p .q ≡ 2 * halfModulus p + 1 → at before j ≤ p .q
+    → Mod (p .q) (residue (p .q) (droppedNoise p unpacked before j) + at before j) (at unpacked j)
 unfolding droppedNoise
-droppedNoise-residue p recovered before j odd h =
-    let w : ℕ = (at recovered j + (p .q - at before j)) % p .q in
-    let same : residue (p .q) (droppedNoise p recovered before j) ≡ w = residue-centre (halfModulus p) (p .q) w odd (mod-lt _ (omega arith)) in
-    mod-trans (mod-add (mod-eq same) (mod-refl _)) (mod-difference (p .q) (at recovered j) (at before j) h)
+droppedNoise-residue p unpacked before j odd h =
+    let w : ℕ = (at unpacked j + (p .q - at before j)) % p .q in
+    let same : residue (p .q) (droppedNoise p unpacked before j) ≡ w = residue-centre (halfModulus p) (p .q) w odd (mod-lt _ (omega arith)) in
+    mod-trans (mod-add (mod-eq same) (mod-refl _)) (mod-difference (p .q) (at unpacked j) (at before j) h)
 
 -- the part of the bits dropped is −y, where the number recovered is y below the number before packing
-dropped-noise : (p : Parameters) (recovered before : List ℕ) (j y : ℕ) → p .q ≡ 2 * halfModulus p + 1 → y ≤ halfModulus p → at before j < p .q → at recovered j + y ≡ at before j
-    → droppedNoise p recovered before j ≡ negℤ (pos y)
+dropped-noise : (p : Parameters) (unpacked before : List ℕ) (j y : ℕ) → p .q ≡ 2 * halfModulus p + 1 → y ≤ halfModulus p → at before j < p .q
+    → at unpacked j + y ≡ at before j
+    → droppedNoise p unpacked before j ≡ negℤ (pos y)
 unfolding droppedNoise
-dropped-noise p recovered before j y odd small below parts =
-    let lost : at recovered j + (p .q - at before j) ≡ p .q - y = omega arith in
+dropped-noise p unpacked before j y odd small below parts =
+    let lost : at unpacked j + (p .q - at before j) ≡ p .q - y = omega arith in
     let same : residue (p .q) (negℤ (pos y)) ≡ (p .q - y) % p .q = residue-negℤ (p .q) (pos y) (omega arith) ∙ rw (residue-low (p .q) y (omega arith)) in
     rw (lost, ← same) (centre-residue (halfModulus p) (p .q) (negℤ (pos y)) odd (rw natAbs-negℤ small))
 
 -- what is opened, and the correlation of c1' with s, make the number of c2
-openedNumber-mod : (p : Parameters) (seedsk ct : List ℕ) (j : ℕ) → 0 < p .q
-    → Mod (p .q) (openedNumber p seedsk ct j + correlation (p .n + p .k) (at (recoveredInverse p 2 (p .n + p .k) (cipherFirst p ct))) (at (secret p seedsk)) j) (at (cipherSecond p ct) j)
-unfolding openedNumber
-openedNumber-mod p seedsk ct j h =
-    let x : ℕ = correlation (p .n + p .k) (at (recoveredInverse p 2 (p .n + p .k) (cipherFirst p ct))) (at (secret p seedsk)) j in
-    mod-trans (mod-add (mod-refl _) (mod-sym (mod-remainder (p .q) x))) (mod-difference (p .q) (at (cipherSecond p ct) j) (x % p .q) (omega (arith, mod-lt x h)))
+decryptedNumber-mod : (p : Parameters) (seedsk ct : List ℕ) (j : ℕ) → 0 < p .q
+    → Mod (p .q) (decryptedNumber p seedsk ct j + correlation (p .n + p .k) (at (recovered p 2 (p .n + p .k) (cipherFirst p ct))) (at (secret p seedsk)) j)
+    (at (cipherSecond p ct) j)
+unfolding decryptedNumber
+decryptedNumber-mod p seedsk ct j h =
+    let x : ℕ = correlation (p .n + p .k) (at (recovered p 2 (p .n + p .k) (cipherFirst p ct))) (at (secret p seedsk)) j in
+    mod-trans (mod-add (mod-refl _) (mod-sym (mod-remainder (p .q) x)))
+    (mod-difference (p .q) (at (cipherSecond p ct) j) (x % p .q) (omega (arith, mod-lt x h)))
 
--- s cancels, over variables: o is opened, x the correlation of c1' with s, c the number of c2 and b that of c2', f the residue of the products' part of the noise, w that of the part dropped
+-- s cancels, over variables: o is opened, x the correlation of c1' with s, c the number of c2 and b that of c2', f the residue of the products' part of the
+-- noise, w that of the part dropped
 cancelled : (q o x c b f w m noise : ℕ) → Mod q (o + x) c → Mod q (w + b) c → Mod q b (x + f + m) → Mod q noise (f + w) → Mod q o (noise + m)
 cancelled q o x c b f w m noise opened dropped sealed parts =
     let order : w + (x + f + m) ≡ f + w + m + x = omega arith in
@@ -93,7 +102,7 @@ cancelled q o x c b f w m noise opened dropped sealed parts =
 
 module _ {p : Parameters} (c : Conditions p) (seed message seedr : List ℕ) (j : ℕ) (inside : j < p .d) where
   -- c2' is the correlation of c1' with s, plus those of r_i with e_i, plus h times the message bit
-  sealed-sums : Mod (p .q) (at (sealedNumbers p (publicKey p seed) message seedr) j)
+  sealed-sums : Mod (p .q) (at (encryptedNumbers p (publicKey p seed) message seedr) j)
       (correlation (p .n + p .k) (at (firstNumbers p (multiplierVector p seedr) (publicPolynomial p (publicSeed p seed)))) (at (secret p (secretSeed p seed))) j
       + sum (p .t) (λ i. correlation (p .k + 1) (at (multiplierVector p seedr i)) (at (residueVector p (p .d + p .k) (errors p (secretSeed p seed)) i)) j)
       + halfModulus p * messageBit p message j)
@@ -101,38 +110,44 @@ module _ {p : Parameters} (c : Conditions p) (seed message seedr : List ℕ) (j 
       let r : ℕ → List ℕ = multiplierVector p seedr in
       let a : ℕ → List ℕ = publicPolynomial p (publicSeed p seed) in
       let e : ℕ → List ℕ = residueVector p (p .d + p .k) (errors p (secretSeed p seed)) in
-      rw (sealedNumbers-at p (publicKey p seed) message seedr j inside)
+      rw (encryptedNumbers-at p (publicKey p seed) message seedr j inside)
       (mod-trans (mod-remainder (p .q) _) (mod-add
-      (exchanged (p .q) (p .k + 1) (p .n) (p .n + p .k) (p .t) r a (λ i. at (keyPolynomial p (publicKey p seed) i)) (λ i. at (e i)) (at (secret p (secretSeed p seed))) (at (firstNumbers p r a)) j
+      (exchanged (p .q) (p .k + 1) (p .n) (p .n + p .k) (p .t) r a (λ i. at (keyPolynomial p (publicKey p seed) i)) (λ i. at (e i))
+      (at (secret p (secretSeed p seed))) (at (firstNumbers p r a)) j
       (λ i l h k. multiplierVector-past p seedr i l k) (λ i l h k. publicPolynomial-past p (publicSeed p seed) i l k) (omega arith)
-      (λ i l h k. rw (keyPolynomial-back c seed i h, publicVector-at p (secretSeed p seed) (publicSeed p seed) i (j + l) (omega arith)) (mod-remainder (p .q) _))
+      (λ i l h k. rw (keyPolynomial-back c seed i h, publicVector-at p (secretSeed p seed) (publicSeed p seed) i (j + l) (omega arith))
+      (mod-remainder (p .q) _))
       (λ l k. rw (firstNumbers-at p r a l k) (mod-remainder (p .q) _)))
       (mod-refl _)))
 
   -- the residue of the noise, by its two parts
   noise-parts : Mod (p .q) (residue (p .q) (noise p seed message seedr j))
       (sum (p .t) (λ i. correlation (p .k + 1) (at (multiplierVector p seedr i)) (at (residueVector p (p .d + p .k) (errors p (secretSeed p seed)) i)) j)
-      + residue (p .q) (droppedNoise p (cipherSecond p (ciphertext p (publicKey p seed) message seedr)) (sealedNumbers p (publicKey p seed) message seedr) j))
+      + residue (p .q) (droppedNoise p (cipherSecond p (ciphertext p (publicKey p seed) message seedr)) (encryptedNumbers p (publicKey p seed) message seedr)
+      j))
   unfolding noise multiplierVector
   noise-parts =
       mod-trans (mod-eq (residue-+ℤ (p .q) _ _ (positive c)))
-      (mod-trans (mod-remainder (p .q) _) (mod-add (productNoise-residue p (multipliersDrawn p seedr) (errors p (secretSeed p seed)) j (positive c) inside) (mod-refl _)))
+      (mod-trans (mod-remainder (p .q) _) (mod-add (productNoise-residue p (multipliersDrawn p seedr) (errors p (secretSeed p seed)) j (positive c) inside)
+      (mod-refl _)))
 
   -- place j of c' is the noise plus h times the message bit
-  pub noisy : Mod (p .q) (openedNumber p (secretSeed p seed) (ciphertext p (publicKey p seed) message seedr) j) (residue (p .q) (noise p seed message seedr j) + halfModulus p * messageBit p message j)
+  pub noisy : Mod (p .q) (decryptedNumber p (secretSeed p seed) (ciphertext p (publicKey p seed) message seedr) j)
+      (residue (p .q) (noise p seed message seedr j) + halfModulus p * messageBit p message j)
   noisy =
       let pk : List ℕ = publicKey p seed in
       let ct : List ℕ = ciphertext p pk message seedr in
       cancelled (p .q) _ _ _ _ _ _ _ _
-      (rw (firstNumbers-back c pk message seedr, keySeed-back c seed) at (openedNumber-mod p (secretSeed p seed) ct j (positive c)))
-      (droppedNoise-residue p (cipherSecond p ct) (sealedNumbers p pk message seedr) j (c .odd) (omega (arith, sealedNumbers-below c pk message seedr j)))
+      (rw (firstNumbers-back c pk message seedr, keySeed-back c seed) at (decryptedNumber-mod p (secretSeed p seed) ct j (positive c)))
+      (droppedNoise-residue p (cipherSecond p ct) (encryptedNumbers p pk message seedr) j (c .odd) (omega (arith, encryptedNumbers-below c pk message seedr j)))
       sealed-sums noise-parts
 
   -- the part of the bits dropped is minus those bits, which are the low cmp bits of c2'
   pub droppedNoise-bits : 2 ^ p .cmp ≤ halfModulus p
-      → droppedNoise p (cipherSecond p (ciphertext p (publicKey p seed) message seedr)) (sealedNumbers p (publicKey p seed) message seedr) j ≡ negℤ (pos (at (sealedNumbers p (publicKey p seed) message seedr) j % 2 ^ p .cmp))
+      → droppedNoise p (cipherSecond p (ciphertext p (publicKey p seed) message seedr)) (encryptedNumbers p (publicKey p seed) message seedr) j ≡ negℤ
+      (pos (at (encryptedNumbers p (publicKey p seed) message seedr) j % 2 ^ p .cmp))
   droppedNoise-bits few =
       let pk : List ℕ = publicKey p seed in
-      let x : ℕ = at (sealedNumbers p pk message seedr) j in
-      dropped-noise p _ _ j (x % 2 ^ p .cmp) (c .odd) (omega (arith, dropped-below (p .cmp) x)) (sealedNumbers-below c pk message seedr j)
+      let x : ℕ = at (encryptedNumbers p pk message seedr) j in
+      dropped-noise p _ _ j (x % 2 ^ p .cmp) (c .odd) (omega (arith, dropped-below (p .cmp) x)) (encryptedNumbers-below c pk message seedr j)
       (rw (cipherSecond-at c pk message seedr j inside) (chop-dropped (p .cmp) x))

@@ -19,13 +19,12 @@ use Rattle.calls.specs.Region.{region, vector}
 use Rattle.calls.proofs.Region.{region-entry}
 use Rattle.sets.specs.declared.Parameters.{Parameters}
 use Rattle.sets.specs.Derived.{halfModulus}
-use Rattle.draws.specs.Uniform.{Drawn, taken, ended, exhausted, accept, numbers}
-use Rattle.draws.proofs.Laws.{Within, accept-within}
 use Rattle.packing.specs.Digits.{Digit}
-use Rattle.samplers.specs.Blocks.{blockCandidates, drawnFrom, uniform}
-use Rattle.samplers.specs.Seeded.{publicCounter, publicDrawn, multipliersDrawn}
-use Rattle.transformed.specs.Stored.{summedProducts}
-use Rattle.scheme.specs.Encryption.{secret, publicPolynomial, errors, residueVector, keyVector, publicVector, keyPolynomial, multiplierVector, firstNumbers, secondNumbers, sealedNumbers, openedNumber, readBits}
+use Rattle.samplers.specs.Seeded.{publicState, publicDrawn, multipliersDrawn}
+use Rattle.samplers.proofs.Laws.{uniform-short}
+use Rattle.ntt_products.specs.Stored.{summedProducts}
+use Rattle.scheme.specs.Encryption.{secret, publicPolynomial, errors, residueVector, keyVector, publicVector, keyPolynomial, multiplierVector}
+use Rattle.scheme.specs.Encryption.{firstNumbers, secondNumbers, encryptedNumbers, decryptedNumber, decryptedBits}
 use Rattle.scheme.specs.Bits.{messageBit}
 
 -- a region has no more entries than places
@@ -34,7 +33,8 @@ unfolding region
 region-short xs from n = rw length-take (omega arith)
 
 -- number l of vector i of whole numbers, as a residue
-pub residueVector-at : (p : Parameters) (n : ℕ) (zs : List ℤ) (i l : ℕ) → l < n → at (residueVector p n zs i) l ≡ residue (p .q) (getD (vector n zs i) l (pos 0))
+pub residueVector-at : (p : Parameters) (n : ℕ) (zs : List ℤ) (i l : ℕ) → l < n
+    → at (residueVector p n zs i) l ≡ residue (p .q) (getD (vector n zs i) l (pos 0))
 unfolding residueVector
 residueVector-at p n zs i l h =
     let zero-residue : residue (p .q) (pos 0) ≡ 0 = residue-pos (p .q) 0 ∙ zero-mod (p .q) in
@@ -53,25 +53,11 @@ pub multiplierVector-past : (p : Parameters) (seedr : List ℕ) (i l : ℕ) → 
 unfolding multiplierVector
 multiplierVector-past p seedr i l h = residueVector-past p (p .k + 1) (multipliersDrawn p seedr) i l h
 
--- a draw gives no more numbers than were wanted
-numbers-short : (wanted used : ℕ) (drawn : Drawn) → Within wanted used drawn → length (numbers drawn) ≤ wanted
-unfolding numbers
-numbers-short wanted used (taken xs) w = omega arith
-numbers-short wanted used (ended xs run) w = omega arith
-numbers-short wanted used (exhausted i) w = omega arith
-
--- a draw from blocks gives no more numbers than were wanted
-drawnFrom-short : (p : Parameters) (seed : List ℕ) (size counter wanted m : ℕ) → length (numbers (drawnFrom p seed size counter wanted m)) ≤ wanted
-unfolding drawnFrom
-drawnFrom-short p seed size counter wanted m =
-    let cs : List ℕ = blockCandidates p seed size counter m in
-    numbers-short wanted (length cs + 0) (accept (p .q) (p .zqrej) wanted 0 cs) (accept-within (p .q) (p .zqrej) wanted 0 cs (omega arith))
-
 -- past the n places of ā_i there is 0
 pub publicPolynomial-past : (p : Parameters) (seedpk : List ℕ) (i l : ℕ) → p .n ≤ l → at (publicPolynomial p seedpk i) l ≡ 0
-unfolding publicPolynomial publicDrawn uniform
+unfolding publicPolynomial publicDrawn
 publicPolynomial-past p seedpk i l h =
-    at-past (publicPolynomial p seedpk i) l (omega (arith, drawnFrom-short p seedpk (p .bytpca) (publicCounter p seedpk i) (p .n) (p .n)))
+    at-past (publicPolynomial p seedpk i) l (omega (arith, uniform-short p (publicState p seedpk i) (p .bytpca) (p .n)))
 
 -- how many numbers b_i has
 pub publicVector-length : (p : Parameters) (seedsk seedpk : List ℕ) (i : ℕ) → length (publicVector p seedsk seedpk i) ≡ p .d + p .k
@@ -80,7 +66,8 @@ publicVector-length p seedsk seedpk i = tabulate-length (p .d + p .k) _
 
 -- number j of b_i
 pub publicVector-at : (p : Parameters) (seedsk seedpk : List ℕ) (i j : ℕ) → j < p .d + p .k
-    → at (publicVector p seedsk seedpk i) j ≡ (correlation (p .n) (at (publicPolynomial p seedpk i)) (at (secret p seedsk)) j + at (residueVector p (p .d + p .k) (errors p seedsk) i) j) % p .q
+    → at (publicVector p seedsk seedpk i) j
+    ≡ (correlation (p .n) (at (publicPolynomial p seedpk i)) (at (secret p seedsk)) j + at (residueVector p (p .d + p .k) (errors p seedsk) i) j) % p .q
 unfolding publicVector keyVector
 publicVector-at p seedsk seedpk i j h = tabulate-at (p .d + p .k) _ j h
 
@@ -95,36 +82,38 @@ unfolding firstNumbers summedProducts
 firstNumbers-at p r a l h = tabulate-at (p .n + p .k) _ l h
 
 -- how many numbers c2' has
-pub sealedNumbers-length : (p : Parameters) (pk message seedr : List ℕ) → length (sealedNumbers p pk message seedr) ≡ p .d
-unfolding sealedNumbers secondNumbers
-sealedNumbers-length p pk message seedr = tabulate-length (p .d) _
+pub encryptedNumbers-length : (p : Parameters) (pk message seedr : List ℕ) → length (encryptedNumbers p pk message seedr) ≡ p .d
+unfolding encryptedNumbers secondNumbers
+encryptedNumbers-length p pk message seedr = tabulate-length (p .d) _
 
 -- number j of c2'
-pub sealedNumbers-at : (p : Parameters) (pk message seedr : List ℕ) (j : ℕ) → j < p .d
-    → at (sealedNumbers p pk message seedr) j ≡ (sum (p .t) (λ i. correlation (p .k + 1) (at (multiplierVector p seedr i)) (at (keyPolynomial p pk i)) j) + halfModulus p * messageBit p message j) % p .q
-unfolding sealedNumbers secondNumbers messageBit
-sealedNumbers-at p pk message seedr j h = tabulate-at (p .d) _ j h
+pub encryptedNumbers-at : (p : Parameters) (pk message seedr : List ℕ) (j : ℕ) → j < p .d
+    → at (encryptedNumbers p pk message seedr) j
+    ≡ (sum (p .t) (λ i. correlation (p .k + 1) (at (multiplierVector p seedr i)) (at (keyPolynomial p pk i)) j) + halfModulus p * messageBit p message j) % p .q
+unfolding encryptedNumbers secondNumbers messageBit
+encryptedNumbers-at p pk message seedr j h = tabulate-at (p .d) _ j h
 
 -- how many bits are read
-pub readBits-length : (p : Parameters) (seedsk ct : List ℕ) → length (readBits p seedsk ct) ≡ p .d
-unfolding readBits
-readBits-length p seedsk ct = tabulate-length (p .d) _
+pub decryptedBits-length : (p : Parameters) (seedsk ct : List ℕ) → length (decryptedBits p seedsk ct) ≡ p .d
+unfolding decryptedBits
+decryptedBits-length p seedsk ct = tabulate-length (p .d) _
 
 -- the bit read at place j
-pub readBits-at : (p : Parameters) (seedsk ct : List ℕ) (j : ℕ) → j < p .d → at (readBits p seedsk ct) j ≡ centredBit (halfModulus p) (openedNumber p seedsk ct j)
-unfolding readBits
-readBits-at p seedsk ct j h = tabulate-at (p .d) _ j h
+pub decryptedBits-at : (p : Parameters) (seedsk ct : List ℕ) (j : ℕ) → j < p .d
+    → at (decryptedBits p seedsk ct) j ≡ centredBit (halfModulus p) (decryptedNumber p seedsk ct j)
+unfolding decryptedBits
+decryptedBits-at p seedsk ct j h = tabulate-at (p .d) _ j h
 
 -- what is read are bits
-pub readBits-below : (p : Parameters) (seedsk ct : List ℕ) → Digit 1 (readBits p seedsk ct)
+pub decryptedBits-below : (p : Parameters) (seedsk ct : List ℕ) → Digit 1 (decryptedBits p seedsk ct)
 unfolding centredBit
-readBits-below p seedsk ct j =
+decryptedBits-below p seedsk ct j =
     elim (decLt j (p .d)) [
-      | yes inside ↦ rw (readBits-at p seedsk ct j inside) (mod-lt _ {m = 2} (omega arith))
-      | no past ↦ rw (at-past (readBits p seedsk ct) j (omega (arith, readBits-length p seedsk ct))) (omega arith)
+      | yes inside ↦ rw (decryptedBits-at p seedsk ct j inside) (mod-lt _ {m = 2} (omega arith))
+      | no past ↦ rw (at-past (decryptedBits p seedsk ct) j (omega (arith, decryptedBits-length p seedsk ct))) (omega arith)
     ]
 
 -- a number that is opened is a residue
-pub openedNumber-below : (p : Parameters) (seedsk ct : List ℕ) (j : ℕ) → 0 < p .q → openedNumber p seedsk ct j < p .q
-unfolding openedNumber
-openedNumber-below p seedsk ct j h = mod-lt _ h
+pub decryptedNumber-below : (p : Parameters) (seedsk ct : List ℕ) (j : ℕ) → 0 < p .q → decryptedNumber p seedsk ct j < p .q
+unfolding decryptedNumber
+decryptedNumber-below p seedsk ct j h = mod-lt _ h

@@ -5,29 +5,34 @@ use mathlib.Core.List.{List, [], _∷_}
 use Prim.Native.Nat.{ℕ, zero, suc, _+_, _*_}
 use lib.Dec.{ltb, eqb}
 use lib.ListN.{length, replicate, take, drop}
-use Rattle.calls.specs.Outcome.{Outcome, accepted, refuse, leaves}
+use Rattle.calls.specs.Outcome.{Outcome, accepted, refuse, leaves, andThen}
 use Rattle.calls.specs.Checks.{allOf, passing, below}
 use Rattle.sets.specs.declared.Parameters.{Parameters}
-use Rattle.sets.specs.Table.{setOf}
+use Rattle.sets.specs.Table.{setOf, noSet}
 use Rattle.sets.specs.Derived.{isEncryption, isExchange, publicKeyBytes, secretKeyBytes, ciphertextBytes}
 use Rattle.draws.specs.Uniform.{Drawn, taken, ended, exhausted}
-use Rattle.samplers.specs.Seeded.{secretDrawn, publicDrawn}
-use Rattle.scheme.specs.Encryption.{secretSeed, publicSeed, keySeed, keyNumbers, cipherFirst}
-use Rattle.scheme.specs.Exchange.{innerSeed}
+use Rattle.samplers.specs.Seeded.{errorCount, secretDrawn, publicDrawn}
+use Rattle.scheme.specs.Encryption.{secretSeed, publicSeed, publicKey, keySeed, keyNumbers, ciphertext, cipherFirst, decryptedMessage}
+use Rattle.scheme.specs.Exchange.{innerSeed, exchangePublicKey, exchangeSecretKey, encapsulated, sharedKey, decapsulated}
 
 -- 1 when the set is not 1 to 12, then 8 when it is not one of the scheme called
 unfoldable pub refuseSet : (ℕ → Bool) → ℕ → Outcome → Outcome
-refuseSet isOwn set after = refuse (ltb set 1) 1 0 (refuse (ltb 12 set) 1 0 (refuse (not (isOwn set)) 8 0 after))
+refuseSet isOwn set after = refuse (ltb set 1) 1 0 (refuse (noSet set) 1 0 (refuse (not (isOwn set)) 8 0 after))
 
--- 2 when a length is not the set's
-abbrev pub refuseLengths : List Bool → Outcome → Outcome
-refuseLengths tests after = refuse (not (allOf tests)) 2 0 after
+-- the checks of a call, which come before its draws: those of the set, then 2 when a length is not the set's
+unfoldable pub checks : (ℕ → Bool) → ℕ → List Bool → Outcome
+checks isOwn set lengths = refuseSet isOwn set (refuse (not (allOf lengths)) 2 0 accepted)
 
--- the length of the work slice that every call of a set is lent: room for a stored secret, one stored vector, the errors of a key, and the stored vectors of a public key
+-- what a call leaves in the work slice: zeros where its checks passed, else what was there
+unfoldable pub workLeft : Outcome → List ℕ → List ℕ
+workLeft checked work = leaves checked (replicate (length work) 0) work
+
+-- the length of the work slice that every call of a set is lent: room for a stored secret, one stored vector, the errors of a key, and the stored vectors
+-- of a public key
 unfoldable pub workLength : Parameters → ℕ
-workLength p = p .d3 + p .d1 + p .t * (p .d + p .k) + p .t * p .d1
+workLength p = p .d3 + p .d1 + errorCount p + p .t * p .d1
 
--- whether a draw took all its numbers
+-- whether a draw took all its numbers; that its candidates end does not happen with the blocks of a set (`uniform-never-ends` of samplers)
 abbrev pub isTaken : Drawn → Bool
 isTaken (taken xs) = true
 isTaken (ended xs run) = false
@@ -49,8 +54,8 @@ keyDraws p seed =
     (refuse (not (allTaken (p .t) (publicDrawn p (publicSeed p seed)))) 5 0 accepted)
 
 -- 3 when a number of the public key is q or more, then 5 when a draw from its seed is refused
-unfoldable pub sealingDraws : Parameters → List ℕ → Outcome
-sealingDraws p pk =
+unfoldable pub encryptDraws : Parameters → List ℕ → Outcome
+encryptDraws p pk =
     refuse (not (allBelow (p .q) (keyNumbers p pk))) 3 0
     (refuse (not (allTaken (p .t) (publicDrawn p (keySeed pk)))) 5 0 accepted)
 
@@ -59,61 +64,112 @@ unfoldable pub secretDraw : Parameters → List ℕ → Outcome
 secretDraw p sk = refuse (not (isTaken (secretDrawn p sk))) 5 0 accepted
 
 -- 3 when a number of c1 is q or more, then what the draw of the secret answers
-unfoldable pub readingDraws : Parameters → List ℕ → List ℕ → Outcome
-readingDraws p sk ct = refuse (not (allBelow (p .q) (cipherFirst p ct))) 3 0 (secretDraw p sk)
+unfoldable pub decryptDraws : Parameters → List ℕ → List ℕ → Outcome
+decryptDraws p sk ct = refuse (not (allBelow (p .q) (cipherFirst p ct))) 3 0 (secretDraw p sk)
 
--- 3 when a number of the public key inside a secret key of the key exchange is q or more, 5 when the draw of the secret is refused, then what sealing again answers
-unfoldable pub decapsulationDraws : Parameters → List ℕ → Outcome
-decapsulationDraws p sk =
+-- 3 when a number of the public key inside a secret key of the key exchange is q or more, 5 when the draw of the secret is refused, then what sealing
+-- again answers
+unfoldable pub decapsulateDraws : Parameters → List ℕ → Outcome
+decapsulateDraws p sk =
     refuse (not (allBelow (p .q) (keyNumbers p (drop 32 sk)))) 3 0
-    (refuse (not (isTaken (secretDrawn p (secretSeed p (innerSeed p (take 32 sk)))))) 5 0 (sealingDraws p (drop 32 sk)))
+    (refuse (not (isTaken (secretDrawn p (secretSeed p (innerSeed p (take 32 sk)))))) 5 0 (encryptDraws p (drop 32 sk)))
 
--- the slices of a key: seed, public key, secret key, work
-abbrev pub keyLengths : ℕ → ℕ → ℕ → ℕ → ℕ → List Bool
-keyLengths set seed pk sk work =
-    eqb seed 32 ∷ eqb pk (publicKeyBytes (setOf set)) ∷ eqb sk (secretKeyBytes set) ∷ eqb work (workLength (setOf set)) ∷ []
+-- the checks of key, by the lengths of seed, public key, secret key and work slice
+unfoldable pub keyChecks : (ℕ → Bool) → ℕ → ℕ → ℕ → ℕ → ℕ → Outcome
+keyChecks isOwn set seed pk sk work =
+    checks isOwn set
+    (eqb seed 32 ∷ eqb pk (publicKeyBytes (setOf set)) ∷ eqb sk (secretKeyBytes set) ∷ eqb work (workLength (setOf set)) ∷ [])
 
--- of an encryption: public key, message, sealing seed, ciphertext, work
-abbrev pub encryptLengths : ℕ → ℕ → ℕ → ℕ → ℕ → ℕ → List Bool
-encryptLengths set pk message seed ct work =
-    eqb pk (publicKeyBytes (setOf set)) ∷ eqb message 32 ∷ eqb seed 32 ∷ eqb ct (ciphertextBytes set) ∷ eqb work (workLength (setOf set)) ∷ []
+-- of encrypt: public key, message, sealing seed, ciphertext, work slice
+unfoldable pub encryptChecks : ℕ → ℕ → ℕ → ℕ → ℕ → ℕ → Outcome
+encryptChecks set pk message seed ct work =
+    checks isEncryption set
+    (eqb pk (publicKeyBytes (setOf set)) ∷ eqb message 32 ∷ eqb seed 32 ∷ eqb ct (ciphertextBytes set) ∷ eqb work (workLength (setOf set)) ∷ [])
 
--- of an encapsulation: public key, message, ciphertext, shared key, work
-abbrev pub encapsulateLengths : ℕ → ℕ → ℕ → ℕ → ℕ → ℕ → List Bool
-encapsulateLengths set pk message ct shared work =
-    eqb pk (publicKeyBytes (setOf set)) ∷ eqb message 32 ∷ eqb ct (ciphertextBytes set) ∷ eqb shared 32 ∷ eqb work (workLength (setOf set)) ∷ []
+-- of encapsulate: public key, message, ciphertext, shared key, work slice
+unfoldable pub encapsulateChecks : ℕ → ℕ → ℕ → ℕ → ℕ → ℕ → Outcome
+encapsulateChecks set pk message ct shared work =
+    checks isExchange set
+    (eqb pk (publicKeyBytes (setOf set)) ∷ eqb message 32 ∷ eqb ct (ciphertextBytes set) ∷ eqb shared 32 ∷ eqb work (workLength (setOf set)) ∷ [])
 
--- of a decryption or decapsulation: secret key, ciphertext, the message or shared key, work
-abbrev pub openingLengths : ℕ → ℕ → ℕ → ℕ → ℕ → List Bool
-openingLengths set sk ct given work =
-    eqb sk (secretKeyBytes set) ∷ eqb ct (ciphertextBytes set) ∷ eqb given 32 ∷ eqb work (workLength (setOf set)) ∷ []
+-- of decrypt and of decapsulate: secret key, ciphertext, the message or shared key, work slice
+unfoldable pub decryptChecks : (ℕ → Bool) → ℕ → ℕ → ℕ → ℕ → ℕ → Outcome
+decryptChecks isOwn set sk ct given work =
+    checks isOwn set
+    (eqb sk (secretKeyBytes set) ∷ eqb ct (ciphertextBytes set) ∷ eqb given 32 ∷ eqb work (workLength (setOf set)) ∷ [])
 
--- key, encrypt and decrypt of the encryption scheme
+-- key of the encryption scheme: its answer, and what it leaves in the public key, the secret key and the work slice
 unfoldable pub encryptionKeyAnswer : ℕ → List ℕ → ℕ → ℕ → ℕ → Outcome
-encryptionKeyAnswer set seed pk sk work = refuseSet isEncryption set (refuseLengths (keyLengths set (length seed) pk sk work) (keyDraws (setOf set) seed))
+encryptionKeyAnswer set seed pk sk work = andThen (keyChecks isEncryption set (length seed) pk sk work) (keyDraws (setOf set) seed)
 
+unfoldable pub encryptionPublicLeft : ℕ → List ℕ → List ℕ → List ℕ → List ℕ → List ℕ
+encryptionPublicLeft set seed pk sk work = leaves (encryptionKeyAnswer set seed (length pk) (length sk) (length work)) (publicKey (setOf set) seed) pk
+
+unfoldable pub encryptionSecretLeft : ℕ → List ℕ → List ℕ → List ℕ → List ℕ → List ℕ
+encryptionSecretLeft set seed pk sk work = leaves (encryptionKeyAnswer set seed (length pk) (length sk) (length work)) (secretSeed (setOf set) seed) sk
+
+unfoldable pub encryptionKeyWork : ℕ → List ℕ → List ℕ → List ℕ → List ℕ → List ℕ
+encryptionKeyWork set seed pk sk work = workLeft (keyChecks isEncryption set (length seed) (length pk) (length sk) (length work)) work
+
+-- encrypt: its answer, and what it leaves in the ciphertext and the work slice
 unfoldable pub encryptAnswer : ℕ → List ℕ → List ℕ → List ℕ → ℕ → ℕ → Outcome
 encryptAnswer set pk message seed ct work =
-    refuseSet isEncryption set
-    (refuseLengths (encryptLengths set (length pk) (length message) (length seed) ct work) (sealingDraws (setOf set) pk))
+    andThen (encryptChecks set (length pk) (length message) (length seed) ct work) (encryptDraws (setOf set) pk)
 
+unfoldable pub ciphertextLeft : ℕ → List ℕ → List ℕ → List ℕ → List ℕ → List ℕ → List ℕ
+ciphertextLeft set pk message seed ct work =
+    leaves (encryptAnswer set pk message seed (length ct) (length work)) (ciphertext (setOf set) pk message seed) ct
+
+unfoldable pub encryptWork : ℕ → List ℕ → List ℕ → List ℕ → List ℕ → List ℕ → List ℕ
+encryptWork set pk message seed ct work = workLeft (encryptChecks set (length pk) (length message) (length seed) (length ct) (length work)) work
+
+-- decrypt: its answer, and what it leaves in the message and the work slice
 unfoldable pub decryptAnswer : ℕ → List ℕ → List ℕ → ℕ → ℕ → Outcome
 decryptAnswer set sk ct message work =
-    refuseSet isEncryption set (refuseLengths (openingLengths set (length sk) (length ct) message work) (readingDraws (setOf set) sk ct))
+    andThen (decryptChecks isEncryption set (length sk) (length ct) message work) (decryptDraws (setOf set) sk ct)
 
--- key, encapsulate and decapsulate of the key exchange
+unfoldable pub messageLeft : ℕ → List ℕ → List ℕ → List ℕ → List ℕ → List ℕ
+messageLeft set sk ct message work = leaves (decryptAnswer set sk ct (length message) (length work)) (decryptedMessage (setOf set) sk ct) message
+
+unfoldable pub decryptWork : ℕ → List ℕ → List ℕ → List ℕ → List ℕ → List ℕ
+decryptWork set sk ct message work = workLeft (decryptChecks isEncryption set (length sk) (length ct) (length message) (length work)) work
+
+-- key of the key exchange: its answer, and what it leaves in the public key, the secret key and the work slice
 unfoldable pub exchangeKeyAnswer : ℕ → List ℕ → ℕ → ℕ → ℕ → Outcome
-exchangeKeyAnswer set seed pk sk work =
-    refuseSet isExchange set (refuseLengths (keyLengths set (length seed) pk sk work) (keyDraws (setOf set) (innerSeed (setOf set) seed)))
+exchangeKeyAnswer set seed pk sk work = andThen (keyChecks isExchange set (length seed) pk sk work) (keyDraws (setOf set) (innerSeed (setOf set) seed))
 
+unfoldable pub exchangePublicLeft : ℕ → List ℕ → List ℕ → List ℕ → List ℕ → List ℕ
+exchangePublicLeft set seed pk sk work = leaves (exchangeKeyAnswer set seed (length pk) (length sk) (length work)) (exchangePublicKey (setOf set) seed) pk
+
+unfoldable pub exchangeSecretLeft : ℕ → List ℕ → List ℕ → List ℕ → List ℕ → List ℕ
+exchangeSecretLeft set seed pk sk work = leaves (exchangeKeyAnswer set seed (length pk) (length sk) (length work)) (exchangeSecretKey (setOf set) seed) sk
+
+unfoldable pub exchangeKeyWork : ℕ → List ℕ → List ℕ → List ℕ → List ℕ → List ℕ
+exchangeKeyWork set seed pk sk work = workLeft (keyChecks isExchange set (length seed) (length pk) (length sk) (length work)) work
+
+-- encapsulate: its answer, and what it leaves in the ciphertext, the shared key and the work slice
 unfoldable pub encapsulateAnswer : ℕ → List ℕ → ℕ → ℕ → ℕ → ℕ → Outcome
-encapsulateAnswer set pk message ct shared work =
-    refuseSet isExchange set (refuseLengths (encapsulateLengths set (length pk) message ct shared work) (sealingDraws (setOf set) pk))
+encapsulateAnswer set pk message ct shared work = andThen (encapsulateChecks set (length pk) message ct shared work) (encryptDraws (setOf set) pk)
 
+unfoldable pub encapsulatedLeft : ℕ → List ℕ → List ℕ → List ℕ → List ℕ → List ℕ → List ℕ
+encapsulatedLeft set pk message ct shared work =
+    leaves (encapsulateAnswer set pk (length message) (length ct) (length shared) (length work)) (encapsulated (setOf set) pk message) ct
+
+unfoldable pub sharedKeyLeft : ℕ → List ℕ → List ℕ → List ℕ → List ℕ → List ℕ → List ℕ
+sharedKeyLeft set pk message ct shared work =
+    leaves (encapsulateAnswer set pk (length message) (length ct) (length shared) (length work)) (sharedKey (setOf set) pk message) shared
+
+unfoldable pub encapsulateWork : ℕ → List ℕ → List ℕ → List ℕ → List ℕ → List ℕ → List ℕ
+encapsulateWork set pk message ct shared work =
+    workLeft (encapsulateChecks set (length pk) (length message) (length ct) (length shared) (length work)) work
+
+-- decapsulate: its answer, and what it leaves in the shared key and the work slice
 unfoldable pub decapsulateAnswer : ℕ → List ℕ → ℕ → ℕ → ℕ → Outcome
-decapsulateAnswer set sk ct shared work =
-    refuseSet isExchange set (refuseLengths (openingLengths set (length sk) ct shared work) (decapsulationDraws (setOf set) sk))
+decapsulateAnswer set sk ct shared work = andThen (decryptChecks isExchange set (length sk) ct shared work) (decapsulateDraws (setOf set) sk)
 
--- what a call leaves in the work slice: zeros where the checks of the set and of the lengths passed, else what was there
-unfoldable pub workLeft : (ℕ → Bool) → ℕ → List Bool → List ℕ → List ℕ
-workLeft isOwn set tests work = leaves (refuseSet isOwn set (refuseLengths tests accepted)) (replicate (length work) 0) work
+unfoldable pub decapsulatedLeft : ℕ → List ℕ → List ℕ → List ℕ → List ℕ → List ℕ
+decapsulatedLeft set sk ct shared work =
+    leaves (decapsulateAnswer set sk (length ct) (length shared) (length work)) (decapsulated (setOf set) sk ct) shared
+
+unfoldable pub decapsulateWork : ℕ → List ℕ → List ℕ → List ℕ → List ℕ → List ℕ
+decapsulateWork set sk ct shared work = workLeft (decryptChecks isExchange set (length sk) (length ct) (length shared) (length work)) work

@@ -5,7 +5,7 @@ use Prim.Native.Nat.{ℕ}
 use Rattle.maths.specs.Vector.{at}
 use Rattle.sets.specs.declared.Parameters.{Parameters}
 use Rattle.packing.specs.Message.{messageBits}
-use Rattle.scheme.specs.Encryption.{secretSeed, publicKey, ciphertext, readMessage}
+use Rattle.scheme.specs.Encryption.{secretSeed, publicKey, ciphertext, decryptedMessage}
 
 -- bit j of a message as 003 lays its bits
 unfoldable pub messageBit : Parameters → List ℕ → ℕ → ℕ
@@ -13,4 +13,4 @@ messageBit p message j = at (messageBits (p .d) message) j
 
 -- what is read of a message: 003's algorithms 1, 2 and 3 one after the other, from a key seed and a sealing seed
 unfoldable pub messageRead : Parameters → List ℕ → List ℕ → List ℕ → List ℕ
-messageRead p seed message seedr = readMessage p (secretSeed p seed) (ciphertext p (publicKey p seed) message seedr)
+messageRead p seed message seedr = decryptedMessage p (secretSeed p seed) (ciphertext p (publicKey p seed) message seedr)

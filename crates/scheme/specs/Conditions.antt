@@ -5,7 +5,7 @@ use Prim.Native.Nat.{ℕ, _+_, _*_, _/_, _^_, _≤_, _<_}
 use Rattle.maths.specs.Root.{RootOfOrder}
 use Rattle.sets.specs.declared.Parameters.{Parameters}
 use Rattle.sets.specs.Derived.{halfModulus, transformSize, transformRoot}
-use Rattle.transformed.specs.Stored.{rowCount}
+use Rattle.ntt_products.specs.Stored.{rowCount}
 
 -- facts of 003's parameters
 pub record Conditions (p : Parameters) : Type 0 where

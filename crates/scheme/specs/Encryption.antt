@@ -1,4 +1,4 @@
--- Titanium-CPA on bytes: key, encryption and decryption (003, section 2.2.1, algorithms 1 to 3), for the numbers p of a set.
+-- Titanium-CPA on bytes: key, encryption and decryption (003, section 2.2.3, algorithms 1 to 3), for the numbers p of a set.
 -- Names in the comments are 003's. A draw stands for the numbers it took; that a refused draw refuses the call stands in Answers.antt.
 -- Assumes nothing.
 use mathlib.Core.List.{List, _++_, map}
@@ -17,16 +17,17 @@ use Rattle.packing.specs.Digits.{pack, unpack}
 use Rattle.packing.specs.Dropped.{packDropping, unpackDropped}
 use Rattle.packing.specs.Message.{messageBits, messageBytes}
 use Rattle.draws.specs.Uniform.{numbers}
-use Rattle.source.specs.Source.{sourceBytes}
-use Rattle.samplers.specs.Seeded.{secretDrawn, secretCounter, publicDrawn, errorsDrawn, multipliersDrawn}
-use Rattle.transformed.specs.Stored.{sent, sentInverse, recovered, recoveredInverse, summedProducts}
+use Rattle.byte_source.specs.Source.{initial, output}
+use Rattle.samplers.specs.Seeded.{secretDrawn, secretState, publicDrawn, errorsDrawn, multipliersDrawn}
+use Rattle.ntt_products.specs.Stored.{sent, sentInverse, recoveredInverse, recovered, summedProducts}
 
--- algorithm 1, lines 2 and 3: seedsk and seedpk, the first two outputs of the byte source of seedkg
+-- algorithm 1, line 2: seedsk, the first output of the byte source of seedkg
 unfoldable pub secretSeed : Parameters → List ℕ → List ℕ
-secretSeed p seed = sourceBytes p seed 0 32
+secretSeed p seed = output p (initial seed) 32 .bytes
 
+-- line 3: seedpk, the output after it
 unfoldable pub publicSeed : Parameters → List ℕ → List ℕ
-publicSeed p seed = sourceBytes p seed 1 32
+publicSeed p seed = output p (output p (initial seed) 32 .next) 32 .bytes
 
 -- Samps: ŝ, the secret as it is stored, from seedsk
 unfoldable pub storedSecret : Parameters → List ℕ → List ℕ
@@ -34,15 +35,15 @@ storedSecret p seedsk = numbers (secretDrawn p seedsk)
 
 -- algorithm 1, line 7: s, the first n + d + k − 1 numbers of what ŝ stores
 unfoldable pub secret : Parameters → List ℕ → List ℕ
-secret p seedsk = recovered p 3 (p .n + p .d + p .k - 1) (storedSecret p seedsk)
+secret p seedsk = recoveredInverse p 3 (p .n + p .d + p .k - 1) (storedSecret p seedsk)
 
 -- Sampa: ā_i, from seedpk
 unfoldable pub publicPolynomial : Parameters → List ℕ → ℕ → List ℕ
 publicPolynomial p seedpk i = numbers (publicDrawn p seedpk i)
 
--- Sampe: e_1, .., e_t, one after the other, from the counter that Samps left
+-- Sampe: e_1, .., e_t, one after the other, from the state that Samps left
 unfoldable pub errors : Parameters → List ℕ → List ℤ
-errors p seedsk = errorsDrawn p seedsk (secretCounter p seedsk)
+errors p seedsk = errorsDrawn p (secretState p seedsk)
 
 -- vector i of a family of whole numbers, as residues
 unfoldable pub residueVector : Parameters → ℕ → List ℤ → ℕ → List ℕ
@@ -73,7 +74,7 @@ keyNumbers p pk = unpack (p .width) (p .d1 * p .t) (drop 32 pk)
 
 -- line 8: b_i, the first d + k numbers of what b̂_i stores
 unfoldable pub keyPolynomial : Parameters → List ℕ → ℕ → List ℕ
-keyPolynomial p pk i = recovered p 1 (p .d + p .k) (vector (p .d1) (keyNumbers p pk) i)
+keyPolynomial p pk i = recoveredInverse p 1 (p .d + p .k) (vector (p .d1) (keyNumbers p pk) i)
 
 -- Sampr: r_i as residues, k + 1 numbers, from seedr
 unfoldable pub multiplierVector : Parameters → List ℕ → ℕ → List ℕ
@@ -88,8 +89,8 @@ unfoldable pub secondNumbers : Parameters → (ℕ → List ℕ) → (ℕ → Li
 secondNumbers p r b m = tabulate (p .d) (λ j. (sum (p .t) (λ i. correlation (p .k + 1) (at (r i)) (at (b i)) j) + halfModulus p * at m j) % p .q)
 
 -- c2' of a public key, a message and a sealing seed
-unfoldable pub sealedNumbers : Parameters → List ℕ → List ℕ → List ℕ → List ℕ
-sealedNumbers p pk message seedr = secondNumbers p (multiplierVector p seedr) (keyPolynomial p pk) (messageBits (p .d) message)
+unfoldable pub encryptedNumbers : Parameters → List ℕ → List ℕ → List ℕ → List ℕ
+encryptedNumbers p pk message seedr = secondNumbers p (multiplierVector p seedr) (keyPolynomial p pk) (messageBits (p .d) message)
 
 -- how many bytes the packed ĉ1 takes, and c2
 unfoldable pub firstBytes : Parameters → ℕ
@@ -102,7 +103,7 @@ secondBytes p = packedBytes (p .d) (p .width - p .cmp)
 unfoldable pub ciphertext : Parameters → List ℕ → List ℕ → List ℕ → List ℕ
 ciphertext p pk message seedr =
     pack (p .width) (firstBytes p) (sent p 2 (firstNumbers p (multiplierVector p seedr) (publicPolynomial p (keySeed pk))))
-    ++ packDropping (p .width) (p .cmp) (secondBytes p) (sealedNumbers p pk message seedr)
+    ++ packDropping (p .width) (p .cmp) (secondBytes p) (encryptedNumbers p pk message seedr)
 
 -- algorithm 3, line 5: ĉ1 and c2 of a ciphertext
 unfoldable pub cipherFirst : Parameters → List ℕ → List ℕ
@@ -112,14 +113,14 @@ unfoldable pub cipherSecond : Parameters → List ℕ → List ℕ
 cipherSecond p ct = unpackDropped (p .width) (p .cmp) (p .d) (drop (firstBytes p) ct)
 
 -- lines 6 and 7: place j of c' = c2 − Rev(c1') ⊙ s modulo q, where c1' are the first n + k numbers of what ĉ1 stores
-unfoldable pub openedNumber : Parameters → List ℕ → List ℕ → ℕ → ℕ
-openedNumber p seedsk ct j =
-    (at (cipherSecond p ct) j + (p .q - correlation (p .n + p .k) (at (recoveredInverse p 2 (p .n + p .k) (cipherFirst p ct))) (at (secret p seedsk)) j % p .q)) % p .q
+unfoldable pub decryptedNumber : Parameters → List ℕ → List ℕ → ℕ → ℕ
+decryptedNumber p seedsk ct j =
+    (at (cipherSecond p ct) j + (p .q - correlation (p .n + p .k) (at (recovered p 2 (p .n + p .k) (cipherFirst p ct))) (at (secret p seedsk)) j % p .q)) % p .q
 
 -- line 8: the bits read (Round)
-unfoldable pub readBits : Parameters → List ℕ → List ℕ → List ℕ
-readBits p seedsk ct = tabulate (p .d) (λ j. centredBit (halfModulus p) (openedNumber p seedsk ct j))
+unfoldable pub decryptedBits : Parameters → List ℕ → List ℕ → List ℕ
+decryptedBits p seedsk ct = tabulate (p .d) (λ j. centredBit (halfModulus p) (decryptedNumber p seedsk ct j))
 
 -- line 9: the message read
-unfoldable pub readMessage : Parameters → List ℕ → List ℕ → List ℕ
-readMessage p seedsk ct = messageBytes 32 (readBits p seedsk ct)
+unfoldable pub decryptedMessage : Parameters → List ℕ → List ℕ → List ℕ
+decryptedMessage p seedsk ct = messageBytes 32 (decryptedBits p seedsk ct)

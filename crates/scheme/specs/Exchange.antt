@@ -8,17 +8,20 @@ use Prim.Native.Nat.{ℕ}
 use lib.Dec.{eqb}
 use lib.ListN.{take, drop}
 use Rattle.sets.specs.declared.Parameters.{Parameters}
-use Rattle.sets.specs.Derived.{sealedBytes}
+use Rattle.sets.specs.Derived.{cpaCiphertextBytes}
 use Rattle.sponge.specs.Sponge.{shake256}
-use Rattle.source.specs.Source.{sourceBytes}
-use Rattle.scheme.specs.Encryption.{secretSeed, publicKey, ciphertext, readMessage}
+use Rattle.byte_source.specs.Source.{initial, output}
+use Rattle.scheme.specs.Encryption.{secretSeed, publicKey, ciphertext, decryptedMessage}
 
--- algorithm 29, line 3: seedkg.cpa and rdec, the two halves of the first output of the byte source of seedkg
+-- algorithm 29, line 3: the first output of the byte source of seedkg, of which seedkg.cpa and rdec are the two halves
+unfoldable pub expandedSeed : Parameters → List ℕ → List ℕ
+expandedSeed p seed = output p (initial seed) 64 .bytes
+
 unfoldable pub innerSeed : Parameters → List ℕ → List ℕ
-innerSeed p seed = take 32 (sourceBytes p seed 0 64)
+innerSeed p seed = take 32 (expandedSeed p seed)
 
 unfoldable pub rejectBytes : Parameters → List ℕ → List ℕ
-rejectBytes p seed = drop 32 (sourceBytes p seed 0 64)
+rejectBytes p seed = drop 32 (expandedSeed p seed)
 
 -- lines 4 to 6: the public key, and the secret key, seedkg and then the public key
 unfoldable pub exchangePublicKey : Parameters → List ℕ → List ℕ
@@ -54,7 +57,7 @@ same (x ∷ xs) (y ∷ ys) = eqb x y && same xs ys
 
 -- algorithm 31, lines 2 to 8: what is read with a secret key before it is sealed again
 unfoldable pub decapsulatedMessage : Parameters → List ℕ → List ℕ → List ℕ
-decapsulatedMessage p sk ct = readMessage p (secretSeed p (innerSeed p (take 32 sk))) (take (sealedBytes p) ct)
+decapsulatedMessage p sk ct = decryptedMessage p (secretSeed p (innerSeed p (take 32 sk))) (take (cpaCiphertextBytes p) ct)
 
 -- lines 9 to 15: what is hashed into the shared key, the message read where sealing it again gives the ciphertext, else the reject bytes
 unfoldable pub hashedSecret : Parameters → List ℕ → List ℕ → List ℕ

@@ -11,22 +11,22 @@ use Rattle.sets.specs.declared.Parameters.{Parameters}
 use Rattle.sets.specs.Table.{table, setOf}
 use Rattle.sets.specs.Derived.{halfModulus}
 use Rattle.samplers.specs.Seeded.{multipliersDrawn}
-use Rattle.scheme.specs.Encryption.{secretSeed, publicKey, errors, sealedNumbers, ciphertext, cipherSecond}
+use Rattle.scheme.specs.Encryption.{secretSeed, publicKey, errors, encryptedNumbers, ciphertext, cipherSecond}
 
 -- the products' part: the sum over i of Rev(r_i) ⊙ e_i
 unfoldable pub productNoise : Parameters → List ℤ → List ℤ → ℕ → ℤ
 productNoise p r e j = sumℤ (p .t) (λ i. correlationℤ (p .k + 1) (vector (p .k + 1) r i) (vector (p .d + p .k) e i) j)
 
--- the part of the bits dropped: the whole number from −h to h congruent to recovered c2 minus c2 before packing
+-- the part of the bits dropped: the whole number from −h to h congruent to unpacked c2 minus c2 before packing
 unfoldable pub droppedNoise : Parameters → List ℕ → List ℕ → ℕ → ℤ
-droppedNoise p recovered before j = centre (halfModulus p) ((at recovered j + (p .q - at before j)) % p .q)
+droppedNoise p unpacked before j = centre (halfModulus p) ((at unpacked j + (p .q - at before j)) % p .q)
 
 -- the noise at place j of a key seed, a message and a sealing seed
 unfoldable pub noise : Parameters → List ℕ → List ℕ → List ℕ → ℕ → ℤ
 noise p seed message seedr j =
     let pk = publicKey p seed in
     productNoise p (multipliersDrawn p seedr) (errors p (secretSeed p seed)) j
-    +ℤ droppedNoise p (cipherSecond p (ciphertext p pk message seedr)) (sealedNumbers p pk message seedr) j
+    +ℤ droppedNoise p (cipherSecond p (ciphertext p pk message seedr)) (encryptedNumbers p pk message seedr) j
 
 -- the noise of 01's bench sheet, whose r is 1, −2 and here reversed
 productNoise-example : productNoise (setOf 0) (negsuc 1 ∷ pos 1 ∷ []) (pos 1 ∷ pos 0 ∷ negsuc 0 ∷ []) 0 ≡ negsuc 1

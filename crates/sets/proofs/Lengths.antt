@@ -5,7 +5,7 @@ use mathlib.Core.Bool.{true, false}
 use Prim.Native.Nat.{ℕ, _+_}
 use native.Mathlib.Nat.{add-zero}
 use Rattle.sets.specs.Table.{setOf}
-use Rattle.sets.specs.Derived.{publicKeyBytes, sealedBytes, isExchange, secretKeyBytes, ciphertextBytes}
+use Rattle.sets.specs.Derived.{publicKeyBytes, cpaCiphertextBytes, isExchange, secretKeyBytes, ciphertextBytes}
 
 -- the secret key of a key exchange holds the public key after its seed
 pub secret-exchange : (set : ℕ) → isExchange set ≡ true → secretKeyBytes set ≡ 32 + publicKeyBytes (setOf set)
@@ -17,10 +17,10 @@ unfolding secretKeyBytes
 secret-other set e = rw e
 
 -- the ciphertext of a key exchange has 32 bytes more
-pub ciphertext-exchange : (set : ℕ) → isExchange set ≡ true → ciphertextBytes set ≡ sealedBytes (setOf set) + 32
+pub ciphertext-exchange : (set : ℕ) → isExchange set ≡ true → ciphertextBytes set ≡ cpaCiphertextBytes (setOf set) + 32
 unfolding ciphertextBytes
 ciphertext-exchange set e = rw e
 
-pub ciphertext-other : (set : ℕ) → isExchange set ≡ false → ciphertextBytes set ≡ sealedBytes (setOf set)
+pub ciphertext-other : (set : ℕ) → isExchange set ≡ false → ciphertextBytes set ≡ cpaCiphertextBytes (setOf set)
 unfolding ciphertextBytes
 ciphertext-other set e = rw (e, add-zero)

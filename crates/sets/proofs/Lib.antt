@@ -2,3 +2,4 @@ pub mod Tested
 pub mod Rules
 pub mod Lengths
 pub mod Transforms
+pub mod Schemes

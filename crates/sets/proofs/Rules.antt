@@ -3,7 +3,7 @@
 use mathlib.Core.Path.{_≡_, refl, sym, subst}
 use mathlib.Core.Bool.{Bool, true}
 use mathlib.Core.List.{List, [], _∷_}
-use Prim.Native.Nat.{ℕ, zero, suc, _+_, _-_, _*_, _/_, _%_, _^_, _≤_, _<_}
+use Prim.Native.Nat.{ℕ, zero, suc, _+_, _-_, _*_, _/_, _%_, _^_, _≤_}
 use native.Mathlib.Nat.{le-of-suc-le-suc, not-suc-le-zero}
 use borrow.Author.Tests.{leb-true, eqb-true}
 use lib.Dec.{T, leb, ltb, eqb}
@@ -13,8 +13,9 @@ use Rattle.maths.proofs.Prime.{prime}
 use Rattle.calls.specs.Checks.{allOf}
 use Rattle.calls.proofs.Checks.{Each}
 use Rattle.sets.specs.declared.Parameters.{Parameters}
-use Rattle.sets.specs.Table.{table, setOf}
-use Rattle.sets.specs.Derived.{halfModulus, multiplierCount, multiplierBytes, multiplierDrawBytes, errorDrawBytes, packedBytes, publicKeyBytes, sealedBytes}
+use Rattle.sets.specs.Table.{table, setOf, IsSet}
+use Rattle.sets.specs.Derived.{halfModulus, multiplierCount, multiplierBytes, multiplierDrawBytes, errorDrawBytes, packedBytes, publicKeyBytes}
+use Rattle.sets.specs.Derived.{cpaCiphertextBytes}
 use Rattle.sets.specs.Rules.{Rules, ByteRules}
 use Rattle.sets.proofs.Tested.{passed, at-each}
 
@@ -65,7 +66,7 @@ tests p =
     leb (p .d2 * p .width) 64512 ∷
     leb (p .d * (p .width - p .cmp)) 2048 ∷
     leb (publicKeyBytes p) 26912 ∷
-    leb (sealedBytes p) 8320 ∷ []
+    leb (cpaCiphertextBytes p) 8320 ∷ []
 
 abbrev byteTests : Parameters → List Bool
 byteTests p =
@@ -98,7 +99,7 @@ kept-bytes p e = search (leb-true, eqb-true)
 
 -- the test of the whole table: all rules for sets 0 to 12, those of bytes for sets 1 to 12
 table-passed : passed tests table ≡ true
-unfolding passed allOf table isPrime noDivisorFrom halfModulus multiplierCount packedBytes publicKeyBytes sealedBytes
+unfolding passed allOf table isPrime noDivisorFrom halfModulus multiplierCount packedBytes publicKeyBytes cpaCiphertextBytes
 table-passed = refl
 
 table-passed-bytes : passed byteTests (drop 1 table) ≡ true
@@ -106,17 +107,17 @@ unfolding passed allOf table halfModulus multiplierCount multiplierBytes multipl
 table-passed-bytes = refl
 
 -- every set from 0 to 12 keeps the rules
-pub rules : (set : ℕ) → set < 13 → Rules (setOf set)
+pub rules : (set : ℕ) → IsSet set → Rules (setOf set)
 unfolding setOf table
 rules set h = kept (setOf set) (at-each tests table table-passed set h)
 
 -- every set from 1 to 12 keeps the rules of bytes
-pub byteRules : (set : ℕ) → 1 ≤ set → set < 13 → ByteRules (setOf set)
+pub byteRules : (set : ℕ) → 1 ≤ set → IsSet set → ByteRules (setOf set)
 unfolding setOf table
 byteRules zero some h = absurd (not-suc-le-zero some)
 byteRules (suc i) some h = kept-bytes (setOf (suc i)) (at-each byteTests (drop 1 table) table-passed-bytes i (le-of-suc-le-suc h))
 
-module _ (set : ℕ) (low : set < 13) (p : Parameters) (e : p ≡ setOf set) where
+module _ (set : ℕ) (low : IsSet set) (p : Parameters) (e : p ≡ setOf set) where
   -- the numbers of the set keep the rules
   pub rules-of : Rules p
   rules-of = rw e (rules set low)

@@ -2,13 +2,13 @@
 -- Assumes nothing.
 use mathlib.Core.Path.{_≡_, refl}
 use mathlib.Core.Bool.{Bool, true, false, cond}
-use Prim.Native.Nat.{ℕ, _≤_, _<_}
+use Prim.Native.Nat.{ℕ, _≤_}
 use native.Mathlib.Omega.{arith}
 use lib.Dec.{eqb}
 use borrow.Author.Tests.{eq-eqb, ne-eqb}
 use Rattle.maths.specs.Root.{powerTable}
 use Rattle.sets.specs.declared.Parameters.{Parameters}
-use Rattle.sets.specs.Table.{setOf}
+use Rattle.sets.specs.Table.{setOf, IsSet}
 use Rattle.sets.specs.Derived.{transformSize, transformRoot, rootPowers}
 use Rattle.sets.proofs.Rules.{rules}
 
@@ -70,7 +70,8 @@ by-size p i P first second third = picked (eqb i 1) (eqb i 2)
     picked false false = third
 
 -- no transform has more than 3,328 places
-pub size-most : (set : ℕ) → set < 13 → (i : ℕ) → transformSize (setOf set) i ≤ 3328
+pub size-most : (set : ℕ) → IsSet set → (i : ℕ) → transformSize (setOf set) i ≤ 3328
 size-most set low i =
     let kept = rules set low in
-    by-size (setOf set) i (λ D. D ≤ 3328) (omega (arith, kept .rising1, kept .rising2, kept .most-d3)) (omega (arith, kept .rising2, kept .most-d3)) (kept .most-d3)
+    by-size (setOf set) i (λ D. D ≤ 3328) (omega (arith, kept .rising1, kept .rising2, kept .most-d3)) (omega (arith, kept .rising2, kept .most-d3))
+    (kept .most-d3)

@@ -1,10 +1,10 @@
 -- Numbers that follow from a set's parameters: 003, sections 2.2.2 (N_dec), 2.2.3 (algorithms 9 and 10) and 3.1 (byte lengths).
 -- Assumes nothing.
 use mathlib.Core.Path.{_≡_, refl}
-use mathlib.Core.Bool.{Bool, false, cond}
+use mathlib.Core.Bool.{Bool, cond}
 use mathlib.Core.List.{List, [], _∷_, map}
 use Prim.Native.Nat.{ℕ, _+_, _-_, _*_, _/_, max}
-use lib.Dec.{leb, eqb}
+use lib.Dec.{eqb}
 use Rattle.maths.specs.Root.{powerTable}
 use Rattle.sets.specs.declared.Parameters.{Parameters}
 use Rattle.sets.specs.Table.{none, table, setOf}
@@ -49,15 +49,19 @@ unfoldable pub publicKeyBytes : Parameters → ℕ
 publicKeyBytes p = 32 + packedBytes (p .d1 * p .t) (p .width)
 
 -- a ciphertext of the encryption scheme: the packed transform of c1, then c2 with its low bits dropped (algorithm 23)
-unfoldable pub sealedBytes : Parameters → ℕ
-sealedBytes p = packedBytes (p .d2) (p .width) + packedBytes (p .d) (p .width - p .cmp)
+unfoldable pub cpaCiphertextBytes : Parameters → ℕ
+cpaCiphertextBytes p = packedBytes (p .d2) (p .width) + packedBytes (p .d) (p .width - p .cmp)
 
--- sets 1 to 6 are the encryption scheme's, sets 7 to 12 the key exchange's
+-- is a set of the scheme with this number
+abbrev pub isOf : ℕ → ℕ → Bool
+isOf scheme set = eqb (setOf set .scheme) scheme
+
+-- is an encryption set, is an exchange set
 unfoldable pub isEncryption : ℕ → Bool
-isEncryption set = cond (leb 1 set) (leb set 6) false
+isEncryption set = isOf 1 set
 
 unfoldable pub isExchange : ℕ → Bool
-isExchange set = cond (leb 7 set) (leb set 12) false
+isExchange set = isOf 2 set
 
 -- a secret key: a seed, and in the key exchange the public key after it (algorithm 29)
 unfoldable pub secretKeyBytes : ℕ → ℕ
@@ -65,7 +69,7 @@ secretKeyBytes set = 32 + cond (isExchange set) (publicKeyBytes (setOf set)) 0
 
 -- a ciphertext: in the key exchange 32 bytes more, d_cca (algorithm 31)
 unfoldable pub ciphertextBytes : ℕ → ℕ
-ciphertextBytes set = sealedBytes (setOf set) + cond (isExchange set) 32 0
+ciphertextBytes set = cpaCiphertextBytes (setOf set) + cond (isExchange set) 32 0
 
 -- the byte lengths of a set: public key, secret key, ciphertext
 lengths : ℕ → List ℕ
@@ -89,5 +93,5 @@ published =
     []
 
 lengths-published : map lengths (1 ∷ 2 ∷ 3 ∷ 4 ∷ 5 ∷ 6 ∷ 7 ∷ 8 ∷ 9 ∷ 10 ∷ 11 ∷ 12 ∷ []) ≡ published
-unfolding none table setOf packedBytes publicKeyBytes sealedBytes isExchange secretKeyBytes ciphertextBytes lengths published
+unfolding none table setOf packedBytes publicKeyBytes cpaCiphertextBytes isExchange secretKeyBytes ciphertextBytes lengths published
 lengths-published = refl

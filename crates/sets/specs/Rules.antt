@@ -4,7 +4,7 @@ use mathlib.Core.Path.{_≡_}
 use Prim.Native.Nat.{_+_, _-_, _*_, _/_, _%_, _^_, _≤_, _<_}
 use Rattle.maths.specs.Prime.{Prime}
 use Rattle.sets.specs.declared.Parameters.{Parameters}
-use Rattle.sets.specs.Derived.{halfModulus, multiplierCount, multiplierBytes, multiplierDrawBytes, errorDrawBytes, publicKeyBytes, sealedBytes}
+use Rattle.sets.specs.Derived.{halfModulus, multiplierCount, multiplierBytes, multiplierDrawBytes, errorDrawBytes, publicKeyBytes, cpaCiphertextBytes}
 
 -- what holds for sets 0 to 12
 pub record Rules (p : Parameters) : Type 0 where
@@ -59,7 +59,7 @@ pub record Rules (p : Parameters) : Type 0 where
   pub most-sealed-bits : p .d2 * p .width ≤ 64512
   pub most-message-bits : p .d * (p .width - p .cmp) ≤ 2048
   pub most-public-key : publicKeyBytes p ≤ 26912
-  pub most-sealed : sealedBytes p ≤ 8320
+  pub most-sealed : cpaCiphertextBytes p ≤ 8320
 
 -- what holds besides for sets 1 to 12, whose keys and ciphertexts are bytes
 pub record ByteRules (p : Parameters) : Type 0 where

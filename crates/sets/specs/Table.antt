@@ -1,46 +1,95 @@
--- The parameter sets: 003, tables 2.1 to 2.5 (sets 1 to 6, Titanium-CPA Toy64, Lite96, Std128, Med160, Hi192, Super256) and 2.6 to 2.10 (sets 7 to 12, Titanium-CCA in that order); set 0 is Bench (01).
+-- The parameter sets: 003, tables 2.1 to 2.5 (sets 1 to 6, Titanium-CPA Toy64, Lite96, Std128, Med160, Hi192, Super256) and 2.6 to 2.10 (sets 7 to 12,
+-- Titanium-CCA in that order); set 0 is Bench (01). scheme is 1 for a set of the encryption scheme, 2 for one of the key exchange, 0 for Bench.
 -- Assumes nothing.
+use mathlib.Core.Path.{_≡_, refl}
+use mathlib.Core.Bool.{Bool}
 use mathlib.Core.List.{List, [], _∷_}
-use Prim.Native.Nat.{ℕ}
-use lib.ListN.{getD}
+use Prim.Native.Nat.{ℕ, suc, _<_}
+use lib.Dec.{ltb}
+use lib.ListN.{length, getD}
 use Rattle.sets.specs.declared.Parameters.{Parameters}
+
+-- the numbers of one set, in the order of the table's columns
+abbrev setRow : (scheme q n k d t cmp width d1 d2 d3 w1 w2 w3 δ2 eta b1 b2 ndec1 bytpcs bytpca zqrej : ℕ) → Parameters
+setRow scheme q n k d t cmp width d1 d2 d3 w1 w2 w3 δ2 eta b1 b2 ndec1 bytpcs bytpca zqrej =
+    record {
+      scheme = scheme;
+      q = q;
+      n = n;
+      k = k;
+      d = d;
+      t = t;
+      cmp = cmp;
+      width = width;
+      d1 = d1;
+      d2 = d2;
+      d3 = d3;
+      w1 = w1;
+      w2 = w2;
+      w3 = w3;
+      row = δ2;
+      eta = eta;
+      b1 = b1;
+      b2 = b2;
+      ndec1 = ndec1;
+      bytpcs = bytpcs;
+      bytpca = bytpca;
+      zqrej = zqrej;
+    }
 
 -- what stands past the table's end: no set
 unfoldable pub none : Parameters
-none =
-    record { q = 0; n = 0; k = 0; d = 0; t = 0; cmp = 0; d1 = 0; d2 = 0; d3 = 0; w1 = 0; w2 = 0; w3 = 0; row = 0; eta = 0; b1 = 0; b2 = 0; ndec1 = 0; bytpcs = 0; bytpca = 0; zqrej = 0; width = 0 }
+none = setRow 0 0 0 0 0 0 0 0 0 0 0 0 0 0 0 0 0 0 0 0 0 0
 
 -- the table, set 0 first
 unfoldable pub table : List Parameters
 table =
+    -- scheme q n k d t cmp width d1 d2 d3 w1 w2 w3 row eta b1 b2 ndec1 bytpcs bytpca zqrej
     -- 0: Bench
-    record { q = 17; n = 2; k = 1; d = 2; t = 1; cmp = 0; d1 = 4; d2 = 4; d3 = 4; w1 = 4; w2 = 4; w3 = 4; row = 1; eta = 1; b1 = 1; b2 = 1; ndec1 = 2; bytpcs = 0; bytpca = 0; zqrej = 16777215; width = 5 } ∷
+    setRow 0 17 2 1 2 1 0 5 4 4 4 4 4 4 1 1 1 1 2 0 0 16777215 ∷
     -- 1: Titanium-CPA Toy64
-    record { q = 240641; n = 684; k = 255; d = 256; t = 10; cmp = 10; d1 = 512; d2 = 1024; d3 = 1280; w1 = 56644; w2 = 238; w3 = 35772; row = 256; eta = 4; b1 = 7; b2 = 8; ndec1 = 1488; bytpcs = 4044; bytpca = 2205; zqrej = 16604229; width = 18 } ∷
+    setRow 1 240641 684 255 256 10 10 18 512 1024 1280 56644 238 35772 256 4 7 8 1488 4044 2205 16604229 ∷
     -- 2: Titanium-CPA Lite96
-    record { q = 84481; n = 800; k = 479; d = 256; t = 8; cmp = 9; d1 = 768; d2 = 1280; d3 = 1536; w1 = 32904; w2 = 68911; w3 = 5170; row = 256; eta = 4; b1 = 5; b2 = 6; ndec1 = 1496; bytpcs = 4764; bytpca = 2523; zqrej = 16727238; width = 17 } ∷
+    setRow 1 84481 800 479 256 8 9 17 768 1280 1536 32904 68911 5170 256 4 5 6 1496 4764 2523 16727238 ∷
     -- 3: Titanium-CPA Std128
-    record { q = 86017; n = 1024; k = 511; d = 256; t = 9; cmp = 9; d1 = 768; d2 = 1536; d3 = 1792; w1 = 71157; w2 = 30077; w3 = 35007; row = 256; eta = 4; b1 = 5; b2 = 6; ndec1 = 2568; bytpcs = 5469; bytpca = 3153; zqrej = 16773315; width = 17 } ∷
+    setRow 1 86017 1024 511 256 9 9 17 768 1536 1792 71157 30077 35007 256 4 5 6 2568 5469 3153 16773315 ∷
     -- 4: Titanium-CPA Med160
-    record { q = 301057; n = 1280; k = 511; d = 256; t = 9; cmp = 11; d1 = 768; d2 = 1792; d3 = 2048; w1 = 146766; w2 = 168263; w3 = 174; row = 256; eta = 4; b1 = 7; b2 = 8; ndec1 = 3816; bytpcs = 6579; bytpca = 4191; zqrej = 16558135; width = 19 } ∷
+    setRow 1 301057 1280 511 256 9 11 19 768 1792 2048 146766 168263 174 256 4 7 8 3816 6579 4191 16558135 ∷
     -- 5: Titanium-CPA Hi192
-    record { q = 737281; n = 1536; k = 767; d = 256; t = 7; cmp = 12; d1 = 1024; d2 = 2304; d3 = 2560; w1 = 1691; w2 = 5454; w3 = 332395; row = 256; eta = 4; b1 = 8; b2 = 9; ndec1 = 3384; bytpcs = 8571; bytpca = 5280; zqrej = 16220182; width = 20 } ∷
+    setRow 1 737281 1536 767 256 7 12 20 1024 2304 2560 1691 5454 332395 256 4 8 9 3384 8571 5280 16220182 ∷
     -- 6: Titanium-CPA Super256
-    record { q = 1198081; n = 2048; k = 1023; d = 256; t = 7; cmp = 13; d1 = 1280; d2 = 3072; d3 = 3328; w1 = 1061167; w2 = 186516; w3 = 1169874; row = 256; eta = 4; b1 = 8; b2 = 9; ndec1 = 3848; bytpcs = 10158; bytpca = 6300; zqrej = 16773134; width = 21 } ∷
+    setRow 1 1198081 2048 1023 256 7 13 21 1280 3072 3328 1061167 186516 1169874 256 4 8 9 3848 10158 6300 16773134 ∷
     -- 7: Titanium-CCA Toy64
-    record { q = 471041; n = 684; k = 255; d = 256; t = 10; cmp = 11; d1 = 512; d2 = 1024; d3 = 1280; w1 = 69169; w2 = 263; w3 = 327393; row = 256; eta = 4; b1 = 7; b2 = 8; ndec1 = 328; bytpcs = 4110; bytpca = 2250; zqrej = 16486435; width = 19 } ∷
+    setRow 2 471041 684 255 256 10 11 19 512 1024 1280 69169 263 327393 256 4 7 8 328 4110 2250 16486435 ∷
     -- 8: Titanium-CCA Lite96
-    record { q = 115201; n = 800; k = 479; d = 256; t = 9; cmp = 9; d1 = 768; d2 = 1280; d3 = 1536; w1 = 13192; w2 = 4959; w3 = 5516; row = 256; eta = 4; b1 = 5; b2 = 6; ndec1 = 4168; bytpcs = 4788; bytpca = 2541; zqrej = 16704145; width = 17 } ∷
+    setRow 2 115201 800 479 256 9 9 17 768 1280 1536 13192 4959 5516 256 4 5 6 4168 4788 2541 16704145 ∷
     -- 9: Titanium-CCA Std128
-    record { q = 118273; n = 1024; k = 511; d = 256; t = 10; cmp = 9; d1 = 768; d2 = 1536; d3 = 1792; w1 = 4136; w2 = 75894; w3 = 9282; row = 256; eta = 4; b1 = 4; b2 = 5; ndec1 = 208; bytpcs = 5634; bytpca = 3276; zqrej = 16676493; width = 17 } ∷
+    setRow 2 118273 1024 511 256 10 9 17 768 1536 1792 4136 75894 9282 256 4 4 5 208 5634 3276 16676493 ∷
     -- 10: Titanium-CCA Med160
-    record { q = 430081; n = 1280; k = 511; d = 256; t = 10; cmp = 11; d1 = 768; d2 = 1792; d3 = 2048; w1 = 15791; w2 = 235435; w3 = 92; row = 256; eta = 4; b1 = 6; b2 = 7; ndec1 = 2248; bytpcs = 6255; bytpca = 3942; zqrej = 16773159; width = 19 } ∷
+    setRow 2 430081 1280 511 256 10 11 19 768 1792 2048 15791 235435 92 256 4 6 7 2248 6255 3942 16773159 ∷
     -- 11: Titanium-CCA Hi192
-    record { q = 783361; n = 1536; k = 767; d = 256; t = 8; cmp = 12; d1 = 1024; d2 = 2304; d3 = 2560; w1 = 874; w2 = 596706; w3 = 13502; row = 256; eta = 4; b1 = 7; b2 = 8; ndec1 = 4704; bytpcs = 8334; bytpca = 5115; zqrej = 16450581; width = 20 } ∷
+    setRow 2 783361 1536 767 256 8 12 20 1024 2304 2560 874 596706 13502 256 4 7 8 4704 8334 5115 16450581 ∷
     -- 12: Titanium-CCA Super256
-    record { q = 1198081; n = 2048; k = 1023; d = 256; t = 8; cmp = 13; d1 = 1280; d2 = 3072; d3 = 3328; w1 = 1061167; w2 = 186516; w3 = 1169874; row = 256; eta = 4; b1 = 7; b2 = 8; ndec1 = 5904; bytpcs = 10158; bytpca = 6300; zqrej = 16773134; width = 21 } ∷
+    setRow 2 1198081 2048 1023 256 8 13 21 1280 3072 3328 1061167 186516 1169874 256 4 7 8 5904 10158 6300 16773134 ∷
     []
 
 -- the numbers of a set
 unfoldable pub setOf : ℕ → Parameters
 setOf set = getD table set none
+
+-- the number of the last set
+abbrev pub lastSet : ℕ
+lastSet = 12
+
+-- is a set
+abbrev pub IsSet : ℕ → Type 0
+IsSet set = set < suc lastSet
+
+-- is none, as a test
+abbrev pub noSet : ℕ → Bool
+noSet set = ltb lastSet set
+
+-- each row of the table is a set
+rows-example : length table ≡ suc lastSet
+unfolding table
+rows-example = refl

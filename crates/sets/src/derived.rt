@@ -2,8 +2,10 @@
 use crate::Parameters;
 ghost use mathlib.Core.Path.{_≡_};
 ghost use Prim.Native.Nat.{_*_, _<_, _≤_, _^_};
+ghost use Rattle.sets.specs.Table.{setOf, IsSet};
 ghost use Rattle.sets.specs.Rules.{Rules};
-ghost use Rattle.sets.specs.Derived.{halfModulus, transformSize, transformRoot, multiplierCount, multiplierBytes, packedBytes, publicKeyBytes, sealedBytes, isEncryption, isExchange, secretKeyBytes, ciphertextBytes};
+ghost use Rattle.sets.specs.Derived.{halfModulus, transformSize, transformRoot, multiplierCount, multiplierBytes, packedBytes, publicKeyBytes};
+ghost use Rattle.sets.specs.Derived.{cpaCiphertextBytes, isEncryption, isExchange, secretKeyBytes, ciphertextBytes};
 
 // The half modulus h.
 pub fn half_modulus(p: Parameters) -> u32
@@ -68,30 +70,40 @@ pub fn public_key_bytes(p: Parameters) -> usize
 }
 
 // The bytes of a ciphertext of the encryption scheme.
-pub fn sealed_bytes(p: Parameters) -> usize
+pub fn cpa_ciphertext_bytes(p: Parameters) -> usize
     requires { ⌜ Rules p ⌝ }
-    ensures { λ r. ⌜ r ≡ sealedBytes p ⌝ }
+    ensures { λ r. ⌜ r ≡ cpaCiphertextBytes p ⌝ }
 {
     packed_bytes(p.d2, p.width as usize) + packed_bytes(p.d, (p.width - p.cmp) as usize)
 }
 
-// Sets 1 to 6 are the encryption scheme's.
+// The scheme of a set: 1 for the encryption scheme, 2 for the key exchange, 0 where there is none.
+pub fn scheme_of(set: usize) -> u32
+    ensures { λ r. ⌜ r ≡ setOf set .scheme ⌝ }
+{
+    if crate::LAST < set {
+        return 0;
+    }
+    crate::parameters_of(set).scheme
+}
+
+// Whether a set is one of the encryption scheme.
 pub fn is_encryption(set: usize) -> bool
     ensures { λ r. ⌜ r ≡ isEncryption set ⌝ }
 {
-    1 <= set && set <= 6
+    scheme_of(set) == crate::ENCRYPTION
 }
 
-// Sets 7 to 12 are the key exchange's.
+// Whether a set is one of the key exchange.
 pub fn is_exchange(set: usize) -> bool
     ensures { λ r. ⌜ r ≡ isExchange set ⌝ }
 {
-    7 <= set && set <= 12
+    scheme_of(set) == crate::EXCHANGE
 }
 
 // The bytes of a set's secret key.
 pub fn secret_key_bytes(set: usize) -> usize
-    requires { ⌜ set < 13 ⌝ }
+    requires { ⌜ IsSet set ⌝ }
     ensures { λ r. ⌜ r ≡ secretKeyBytes set ⌝ }
 {
     if is_exchange(set) {
@@ -103,10 +115,10 @@ pub fn secret_key_bytes(set: usize) -> usize
 
 // The bytes of a set's ciphertext.
 pub fn ciphertext_bytes(set: usize) -> usize
-    requires { ⌜ set < 13 ⌝ }
+    requires { ⌜ IsSet set ⌝ }
     ensures { λ r. ⌜ r ≡ ciphertextBytes set ⌝ }
 {
-    let sealed = sealed_bytes(crate::parameters_of(set));
+    let sealed = cpa_ciphertext_bytes(crate::parameters_of(set));
     if is_exchange(set) {
         sealed + 32
     } else {

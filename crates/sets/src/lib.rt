@@ -1,12 +1,14 @@
-// The parameter sets of Titanium 1.1: sets 1 to 6 are Titanium-CPA, 7 to 12 Titanium-CCA (003, tables 2.1 to 2.10); set 0 is Bench (01, Sources and what is built).
+// The parameter sets of Titanium 1.1: sets 1 to 6 are Titanium-CPA, 7 to 12 Titanium-CCA (003, tables 2.1 to 2.10); set 0 is Bench (01, Sources and what is
+// built).
 ghost use mathlib.Core.Path.{_≡_};
-ghost use Prim.Native.Nat.{_<_};
-ghost use Rattle.sets.specs.Table.{setOf};
+ghost use Rattle.sets.specs.Table.{setOf, IsSet};
 
 pub mod derived;
 
 // The numbers of one set, under the names of 003.
 pub struct Parameters {
+    // 1 for a set of the encryption scheme, 2 for one of the key exchange, 0 for Bench
+    pub scheme: u32,
     // the modulus, an odd prime
     pub q: u32,
     // the length of a public polynomial a_i
@@ -51,9 +53,18 @@ pub struct Parameters {
     pub width: u32,
 }
 
+// The number of the last set.
+pub const LAST: usize = 12;
+
+// The numbers of the two schemes in a set's record.
+pub const ENCRYPTION: u32 = 1;
+
+pub const EXCHANGE: u32 = 2;
+
 const SETS: [Parameters; 13] = [
     // 0: Bench
     Parameters {
+        scheme: 0,
         q: 17,
         n: 2,
         k: 1,
@@ -78,6 +89,7 @@ const SETS: [Parameters; 13] = [
     },
     // 1: Titanium-CPA Toy64
     Parameters {
+        scheme: 1,
         q: 240641,
         n: 684,
         k: 255,
@@ -102,6 +114,7 @@ const SETS: [Parameters; 13] = [
     },
     // 2: Titanium-CPA Lite96
     Parameters {
+        scheme: 1,
         q: 84481,
         n: 800,
         k: 479,
@@ -126,6 +139,7 @@ const SETS: [Parameters; 13] = [
     },
     // 3: Titanium-CPA Std128
     Parameters {
+        scheme: 1,
         q: 86017,
         n: 1024,
         k: 511,
@@ -150,6 +164,7 @@ const SETS: [Parameters; 13] = [
     },
     // 4: Titanium-CPA Med160
     Parameters {
+        scheme: 1,
         q: 301057,
         n: 1280,
         k: 511,
@@ -174,6 +189,7 @@ const SETS: [Parameters; 13] = [
     },
     // 5: Titanium-CPA Hi192
     Parameters {
+        scheme: 1,
         q: 737281,
         n: 1536,
         k: 767,
@@ -198,6 +214,7 @@ const SETS: [Parameters; 13] = [
     },
     // 6: Titanium-CPA Super256
     Parameters {
+        scheme: 1,
         q: 1198081,
         n: 2048,
         k: 1023,
@@ -222,6 +239,7 @@ const SETS: [Parameters; 13] = [
     },
     // 7: Titanium-CCA Toy64
     Parameters {
+        scheme: 2,
         q: 471041,
         n: 684,
         k: 255,
@@ -246,6 +264,7 @@ const SETS: [Parameters; 13] = [
     },
     // 8: Titanium-CCA Lite96
     Parameters {
+        scheme: 2,
         q: 115201,
         n: 800,
         k: 479,
@@ -270,6 +289,7 @@ const SETS: [Parameters; 13] = [
     },
     // 9: Titanium-CCA Std128
     Parameters {
+        scheme: 2,
         q: 118273,
         n: 1024,
         k: 511,
@@ -294,6 +314,7 @@ const SETS: [Parameters; 13] = [
     },
     // 10: Titanium-CCA Med160
     Parameters {
+        scheme: 2,
         q: 430081,
         n: 1280,
         k: 511,
@@ -318,6 +339,7 @@ const SETS: [Parameters; 13] = [
     },
     // 11: Titanium-CCA Hi192
     Parameters {
+        scheme: 2,
         q: 783361,
         n: 1536,
         k: 767,
@@ -342,6 +364,7 @@ const SETS: [Parameters; 13] = [
     },
     // 12: Titanium-CCA Super256
     Parameters {
+        scheme: 2,
         q: 1198081,
         n: 2048,
         k: 1023,
@@ -368,7 +391,7 @@ const SETS: [Parameters; 13] = [
 
 // The numbers of a set from 0 to 12.
 pub fn parameters_of(set: usize) -> Parameters
-    requires { ⌜ set < 13 ⌝ }
+    requires { ⌜ IsSet set ⌝ }
     ensures { λ r. ⌜ r ≡ setOf set ⌝ }
 {
     SETS[set]

@@ -1,2 +1,1 @@
-pub mod SeededLaws
 pub mod SheetLaws

@@ -5,22 +5,24 @@ use mathlib.Core.List.{List, [], _∷_}
 use Prim.Native.Nat.{ℕ}
 use Rattle.maths.specs.Vector.{tabulate}
 use Rattle.maths.specs.Sum.{sum}
-use Rattle.maths.specs.Product.{product}
+use Rattle.maths.specs.Product.{product, middleProduct}
 use Rattle.maths.specs.Integer.{residue, sumℤ, productℤ}
 use Rattle.maths.specs.Rounding.{floorBit}
 use Rattle.calls.specs.Checks.{passing, refuseFirst}
-use Rattle.calls.specs.Region.{region}
+use Rattle.calls.specs.Region.{region, joined}
 use Rattle.sets.specs.Table.{none, table, setOf}
 use Rattle.sets.specs.Derived.{halfModulus}
-use Rattle.numbers.specs.Scheme.{key, sumOfProducts, firstPart, secondPart, opened, bitRead, reading}
+use Rattle.numbers.specs.Scheme.{keyPart, key, sumOfProducts, firstPart, sumOfMiddles, secondPart, opened, roundedBit, reading}
 use Rattle.numbers.specs.Calls.{multiplierBound}
 use Rattle.numbers.specs.Noise.{numbersNoise}
 use Rattle.draws.specs.Calls.{inTurn}
-use Rattle.bench_rows.specs.Bench as bench
+use Rattle.sheet_bench.specs.Bench as bench
 use Rattle.sheet_text.specs.Decimal as decimal
 use Rattle.sheet_text.specs.Order.{shown, ordered, inserted, insert, before, sizeAt}
 use Rattle.sheet_text.specs.Text.{header, row, rows, ceilingWord, halfWord, lastLine, sheetText, refusedWord, refusedText}
-use Rattle.sheet.specs.Sheet.{ceiling, setByte, inputBytes, handedIn, rowNoise, rowSent, rowRead, inputAnswer, rowsAnswer, sheetAnswer, rowsText, sheetOf}
+use Rattle.sheet_text.specs.Ceiling.{ceiling}
+use Rattle.sheet_rows.specs.Input.{hasSheet, inputBytes, handedIn, rowNoise, rowSent, rowRead, rowsAnswer}
+use Rattle.sheet.specs.Sheet.{setByte, inputAnswer, sheetAnswer, rowsText, sheetOf}
 
 -- a 3 5, s 1 2 3 4, e 1 0 −1, r 1 −2, message 1 0
 abbrev example : List ℕ
@@ -36,7 +38,10 @@ sheetOf-example :
     48 ∷ 32 ∷ 45 ∷ 50 ∷ 32 ∷ 49 ∷ 32 ∷ 49 ∷ 10 ∷
     49 ∷ 32 ∷ 45 ∷ 49 ∷ 32 ∷ 48 ∷ 32 ∷ 48 ∷ 10 ∷
     99 ∷ 101 ∷ 105 ∷ 108 ∷ 105 ∷ 110 ∷ 103 ∷ 32 ∷ 52 ∷ 32 ∷ 104 ∷ 97 ∷ 108 ∷ 102 ∷ 32 ∷ 56 ∷ 10 ∷ []
-unfolding sheetOf sheetAnswer inputAnswer setByte inputBytes rowsAnswer rowsText rowNoise rowSent rowRead ceiling halfModulus none table setOf bench.benchAnswer bench.benchFits bench.signed handedIn inTurn refuseFirst passing multiplierBound region numbersNoise productℤ sumℤ tabulate sum product residue floorBit key sumOfProducts firstPart secondPart opened bitRead reading sheetText header rows row lastLine ceilingWord halfWord shown ordered inserted insert before sizeAt decimal.signed decimal.decimal decimal.digits
+unfolding sheetOf sheetAnswer inputAnswer setByte hasSheet inputBytes rowsAnswer rowsText rowNoise rowSent rowRead ceiling halfModulus none table setOf
+    bench.benchAnswer bench.benchFits bench.signed handedIn inTurn refuseFirst passing multiplierBound region numbersNoise productℤ sumℤ joined tabulate sum
+    product middleProduct residue floorBit keyPart key sumOfProducts firstPart sumOfMiddles secondPart opened roundedBit reading sheetText header rows row
+    lastLine ceilingWord halfWord shown ordered inserted insert before sizeAt decimal.signed decimal.decimal decimal.digits
 sheetOf-example = refl
 
 -- refused 2 0, for an empty input

@@ -1,3 +1,3 @@
 pub mod Sheet
-pub mod Rows
+pub mod Printed
 pub mod Example

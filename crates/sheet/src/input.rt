@@ -4,7 +4,8 @@ ghost use mathlib.Core.Path.{_≡_};
 ghost use Prim.Native.Nat.{_≤_};
 ghost use lib.ListN.{length};
 ghost use Rattle.calls.specs.Outcome.{outcome, accepted};
-ghost use Rattle.sheet.specs.Sheet.{setByte, inputBytes, inputAnswer};
+ghost use Rattle.sheet_rows.specs.Input.{hasSheet, inputBytes};
+ghost use Rattle.sheet.specs.Sheet.{setByte, inputAnswer};
 
 // The set byte.
 pub fn set_byte(input: &[u8]) -> usize
@@ -24,7 +25,17 @@ fn input_bytes(set: usize) -> usize
     97
 }
 
-// Refused with 2 when the input is empty, with 1 when the set is not 0 to 6, with 2 when the length is not the set's.
+// Whether a set has a sheet.
+fn has_sheet(set: usize) -> bool
+    ensures { λ r. ⌜ r ≡ hasSheet set ⌝ }
+{
+    if set == 0 {
+        return true;
+    }
+    sets::derived::is_encryption(set)
+}
+
+// Refused with 2 when the input is empty, with 1 when the set has no sheet, with 2 when the length is not the set's.
 pub fn checked(input: &[u8]) -> Answer
     ensures { λ r. ⌜ outcome r ≡ inputAnswer (now (input .entry)) accepted ⌝ }
 {
@@ -32,7 +43,7 @@ pub fn checked(input: &[u8]) -> Answer
         return Answer::Refused(2, 0);
     }
     let set = set_byte(input);
-    if 6 < set {
+    if !has_sheet(set) {
         return Answer::Refused(1, 0);
     }
     if input.len() != input_bytes(set) {

@@ -1,3 +1,4 @@
+pub mod CeilingLaws
 pub mod DecimalLaws
 pub mod WrittenLaws
 pub mod SignedWord

@@ -1,13 +1,13 @@
 -- The places of a sheet are sorted, and each stands there once (01, The bench sheet): what insertion one by one gives.
 -- Assumes nothing.
-use mathlib.Core.Path.{_≡_, refl, sym, ap, _∙_}
+use mathlib.Core.Path.{_≡_, refl, sym, _∙_}
 use mathlib.Core.Logic.{_⊎_, inl, inr}
 use mathlib.Core.Bool.{Bool, true, false, cond}
 use mathlib.Core.List.{List, [], _∷_}
-use Prim.Native.Nat.{ℕ, zero, suc, _+_, _≤_, _<_}
+use Prim.Native.Nat.{ℕ, zero, suc, _+_, _<_}
 use native.Mathlib.Decide.{decLt, ℕ-discrete}
 use native.Mathlib.Omega.{arith}
-use borrow.Author.Tests.{lt-ltb, le-ltb, ltb-true, ltb-false, eq-eqb, ne-eqb}
+use borrow.Author.Tests.{lt-ltb, le-ltb, ltb-true, eq-eqb, ne-eqb}
 use lib.Dec.{ltb, eqb}
 use lib.IntN.{ℤ}
 use lib.ListN.{length}
@@ -29,7 +29,8 @@ module _ (noise : List ℤ) where
     | yes larger ↦ inl larger
     | no most ↦ elim (decLt (sizeAt noise one) (sizeAt noise other)) [
       | yes smaller ↦ let f = before-smaller noise one other smaller in let z : _≡_ {A = ℕ} 0 1 = cc in absurd (omega arith)
-      | no least ↦ let same : sizeAt noise one ≡ sizeAt noise other = omega arith in inr (same, ltb-true one other (sym (before-equal noise one other same) ∙ e))
+      | no least ↦ let same : sizeAt noise one ≡ sizeAt noise other = omega arith in inr
+          (same, ltb-true one other (sym (before-equal noise one other same) ∙ e))
     ]
   ]
 
@@ -86,7 +87,8 @@ module _ (noise : List ℤ) where
   occurrences-insert place other (x ∷ xs) = go (before noise other x) (occurrences-insert place other xs)
     where
       go : (t : Bool) → occurrences place (insert noise other xs) ≡ cond (eqb place other) 1 0 + occurrences place xs
-          → occurrences place (cond t (other ∷ x ∷ xs) (x ∷ insert noise other xs)) ≡ cond (eqb place other) 1 0 + (cond (eqb place x) 1 0 + occurrences place xs)
+          → occurrences place (cond t (other ∷ x ∷ xs) (x ∷ insert noise other xs)) ≡ cond (eqb place other) 1
+          0 + (cond (eqb place x) 1 0 + occurrences place xs)
       go true rest = refl
       go false rest = let one : ℕ = cond (eqb place x) 1 0 in omega (arith, rest)
 

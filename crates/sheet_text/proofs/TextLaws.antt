@@ -32,14 +32,16 @@ module _ (noise : List ℤ) (sent read : List ℕ) where
   rows-none places = refl
 
   -- one row more
-  pub rows-more : (places : List ℕ) (i : ℕ) → i < length places → rows noise sent read (take (i + 1) places) ≡ rows noise sent read (take i places) ++ rowOf (getD places i 0)
+  pub rows-more : (places : List ℕ) (i : ℕ) → i < length places
+      → rows noise sent read (take (i + 1) places) ≡ rows noise sent read (take i places) ++ rowOf (getD places i 0)
   unfolding rows
   rows-more places i h = rw (add-one, take-suc places i 0 h, rows-append (take i places) (getD places i 0 ∷ []), append-nil (rowOf (getD places i 0)))
 
   -- the rows of the first places are no longer than all
   pub rows-front : (places : List ℕ) (i : ℕ) → length (rows noise sent read (take i places)) ≤ length (rows noise sent read places)
   rows-front places i =
-      let e : length (rows noise sent read (take i places ++ drop i places)) ≡ length (rows noise sent read (take i places)) + length (rows noise sent read (drop i places)) =
+      let e : length (rows noise sent read (take i places ++ drop i places)) ≡ length (rows noise sent read (take i places)) + length
+      (rows noise sent read (drop i places)) =
       ap length (rows-append (take i places) (drop i places)) ∙ length-append (rows noise sent read (take i places)) (rows noise sent read (drop i places)) in
       omega (arith, rw take-append-drop at e)
 

@@ -1,3 +1,4 @@
+pub mod Ceiling
 pub mod Decimal
 pub mod Order
 pub mod Text

@@ -31,8 +31,10 @@ fn put_rows(
     at: usize,
     out: &mut [u8],
 ) -> usize
-    requires { ⌜ Sealing (now noise) (now sent) (now read) × Places (now places) (length (now noise)) × (at + length (rows (now noise) (now sent) (now read) (now places)) ≤ length (now out)) ⌝ }
-    ensures { λ r. ⌜ Written (now (out .entry)) at (rows (now (noise .entry)) (now (sent .entry)) (now (read .entry)) (now (places .entry))) (now (out .exit)) r ⌝ }
+    requires { ⌜ Sealing (now noise) (now sent) (now read) × Places (now places) (length (now noise))
+        × (at + length (rows (now noise) (now sent) (now read) (now places)) ≤ length (now out)) ⌝ }
+    ensures { λ r. ⌜ Written (now (out .entry)) at (rows (now (noise .entry)) (now (sent .entry)) (now (read .entry)) (now (places .entry)))
+        (now (out .exit)) r ⌝ }
 {
     let mut next = at;
     let mut i: usize = 0;
@@ -66,7 +68,8 @@ pub fn put_sheet(
     order: &mut [usize],
     out: &mut [u8],
 ) -> usize
-    requires { ⌜ Sealing (now noise) (now sent) (now read) × (length (now noise) ≤ length (now order)) × (length (sheetText (now noise) (now sent) (now read) ceiling half) ≤ length (now out)) ⌝ }
+    requires { ⌜ Sealing (now noise) (now sent) (now read) × (length (now noise) ≤ length (now order))
+        × (length (sheetText (now noise) (now sent) (now read) ceiling half) ≤ length (now out)) ⌝ }
     ensures { λ r. ⌜ Written (now (out .entry)) 0 (sheetText (now (noise .entry)) (now (sent .entry)) (now (read .entry)) ceiling half) (now (out .exit)) r ⌝ }
 {
     order_places(noise, order);

@@ -41,7 +41,8 @@ place-then : (at m n k at′ : ℕ) → at′ ≡ (at + m) % 136 → k ≡ m + n
 place-then at m n k at′ e l = omega arith
 
 -- two pieces, one after the other
-pub fed-then : {a : List (List ℕ)} {block : List ℕ} {at : ℕ} {xs : List ℕ} {a′ : List (List ℕ)} {block′ : List ℕ} {at′ : ℕ} {ys : List ℕ} {a″ : List (List ℕ)} {block″ : List ℕ} {at″ : ℕ}
+pub fed-then : {a : List (List ℕ)} {block : List ℕ} {at : ℕ} {xs : List ℕ} {a′ : List (List ℕ)} {block′ : List ℕ} {at′ : ℕ} {ys : List ℕ} {a″ : List (List ℕ)}
+    {block″ : List ℕ} {at″ : ℕ}
     → Fed a block at xs a′ block′ at′ → Fed a′ block′ at′ ys a″ block″ at″ → Fed a block at (xs ++ ys) a″ block″ at″
 fed-then {at = at} {xs = xs} {at′ = at′} {ys = ys} f g =
     record {
@@ -107,14 +108,17 @@ module _ {a₀ : List (List ℕ)} {block₀ : List ℕ} {at₀ : ℕ} {a : List 
   piece-joined = let e : i + (i + n - i) ≡ i + n = omega arith in sym (take-add i (i + n - i) bytes) ∙ ap (λ (k : ℕ). take k bytes) e
 
   -- the piece leaves room in the block
-  pub piece-part : (block′ : List ℕ) → block′ ≡ over block at (take (i + n - i) (drop i bytes)) → at + n < 136 → Fed a₀ block₀ at₀ (take (i + n) bytes) a block′ (at + n)
+  pub piece-part : (block′ : List ℕ) → block′ ≡ over block at (take (i + n - i) (drop i bytes)) → at + n < 136
+      → Fed a₀ block₀ at₀ (take (i + n) bytes) a block′ (at + n)
   piece-part block′ w l =
       let k = piece-length in
       let g = fed-then f (fed-part a block at (take (i + n - i) (drop i bytes)) (f .ready) (omega arith)) in
-      rw (w, ← piece-joined) (subst (λ (x : ℕ). Fed a₀ block₀ at₀ (take i bytes ++ take (i + n - i) (drop i bytes)) a (over block at (take (i + n - i) (drop i bytes))) (at + x)) k g)
+      rw (w, ← piece-joined) (subst (λ (x : ℕ). Fed a₀ block₀ at₀ (take i bytes ++ take (i + n - i) (drop i bytes)) a
+      (over block at (take (i + n - i) (drop i bytes))) (at + x)) k g)
 
   -- the piece fills the block
-  pub piece-full : (a′ : List (List ℕ)) (block′ : List ℕ) → block′ ≡ over block at (take (i + n - i) (drop i bytes)) → a′ ≡ keccakF (mixed a block′) → at + n ≡ 136
+  pub piece-full : (a′ : List (List ℕ)) (block′ : List ℕ) → block′ ≡ over block at (take (i + n - i) (drop i bytes)) → a′ ≡ keccakF (mixed a block′)
+      → at + n ≡ 136
       → Fed a₀ block₀ at₀ (take (i + n) bytes) a′ block′ 0
   piece-full a′ block′ w e l =
       let k = piece-length in

@@ -14,7 +14,8 @@ use Rattle.maths.specs.Bytes.{littleEndian, bytesOf}
 use Rattle.sponge.specs.Sponge.{laneOf, lanes}
 
 -- the first byte and those after it
-first-byte : (xs : List ℕ) (n j k : ℕ) → j < length xs → k ≡ j + 1 → littleEndian (take (suc n) (drop j xs)) ≡ getD xs j 0 + 256 * littleEndian (take n (drop k xs))
+first-byte : (xs : List ℕ) (n j k : ℕ) → j < length xs → k ≡ j + 1
+    → littleEndian (take (suc n) (drop j xs)) ≡ getD xs j 0 + 256 * littleEndian (take n (drop k xs))
 unfolding littleEndian
 first-byte xs n j k h e = rw (e, add-one, drop-cons xs j 0)
 
@@ -66,7 +67,8 @@ unfolding lanes over
 laid-none s old h = record { within = omega arith; room = h; kept = h; written = refl }
 
 -- a turn lays the next lane out
-pub laid-more : {s : List (List ℕ)} {old : List ℕ} {i : ℕ} {new : List ℕ} (b : List ℕ) → Laid s old i new → i < 17 → b ≡ bytesOf 8 (lane s (i % 5) (i / 5)) → Laid s old (i + 1) (over new (8 * i) b)
+pub laid-more : {s : List (List ℕ)} {old : List ℕ} {i : ℕ} {new : List ℕ} (b : List ℕ) → Laid s old i new → i < 17 → b ≡ bytesOf 8 (lane s (i % 5) (i / 5))
+    → Laid s old (i + 1) (over new (8 * i) b)
 unfolding lanes
 laid-more {s} {old} {i} {new} b f h e =
     let l : length (lanes s i) ≡ 8 * i = lanes-length s i in

@@ -66,7 +66,8 @@ filled-rest {a} {block} {at} a′ block′ r n w e =
     rw (k, e, w) (fed-full a block at (replicate (136 - at) 0) r (omega (arith, r .below)))
 
 -- the zeros after what was fed from the start of a block fill it up
-pub fed-up : {a : List (List ℕ)} {block : List ℕ} {at : ℕ} {z : List ℕ} {a′ : List (List ℕ)} {block′ : List ℕ} {at′ : ℕ} {a″ : List (List ℕ)} {block″ : List ℕ} {at″ : ℕ}
+pub fed-up : {a : List (List ℕ)} {block : List ℕ} {at : ℕ} {z : List ℕ} {a′ : List (List ℕ)} {block′ : List ℕ} {at′ : ℕ} {a″ : List (List ℕ)} {block″ : List ℕ}
+    {at″ : ℕ}
     → at ≡ 0 → Fed a block at z a′ block′ at′ → Fed a′ block′ at′ (replicate ((136 - at′) % 136) 0) a″ block″ at″ → Fed a block at (fillUp z 136) a″ block″ at″
 unfolding fillUp
 fed-up {at = at} {z = z} {at′ = at′} e f g =
@@ -90,7 +91,8 @@ name-encoded = refl
 
 -- the parts one after the other
 pub kmac-parts : (key input customization : List ℕ) (bits d : ℕ)
-    → sponge 0x04 (bytepad ((1 ∷ 32 ∷ 0x4b ∷ 0x4d ∷ 0x41 ∷ 0x43 ∷ []) ++ encodeString customization) 136 ++ bytepad (encodeString key) 136 ++ input ++ rightEncode bits) d
+    → sponge 0x04 (bytepad ((1 ∷ 32 ∷ 0x4b ∷ 0x4d ∷ 0x41 ∷ 0x43 ∷ []) ++ encodeString customization) 136 ++ bytepad (encodeString key)
+    136 ++ input ++ rightEncode bits) d
     ≡ kmacOf key input customization bits d
 unfolding kmacOf cshake256
 kmac-parts key input customization bits d = rw name-encoded (ap (λ (m : List ℕ). sponge 0x04 m d) (simp append-assoc))

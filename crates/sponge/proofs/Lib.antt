@@ -2,5 +2,4 @@ pub mod Bytes
 pub mod Absorbing
 pub mod Squeezing
 pub mod Encoding
-pub mod Answering
 pub mod Laws

@@ -1,4 +1,3 @@
 pub mod Sponge
 pub mod Kmac
 pub mod Absorbed
-pub mod Answers

@@ -1,7 +1,7 @@
 // The encodings of SP 800-185, and what KMAC256 and KMACXOF256 share.
 ghost use mathlib.Core.Path.{_≡_};
 ghost use mathlib.Core.List.{_++_};
-ghost use Prim.Native.Nat.{_+_, _-_, _%_, _^_, _<_, _≤_};
+ghost use Prim.Native.Nat.{_-_, _%_, _^_, _<_, _≤_};
 ghost use lib.ListN.{length, replicate};
 ghost use Rattle.sponge.specs.Kmac.{leftEncode, rightEncode, encodeString, bytepad, kmacOf};
 ghost use Rattle.sponge.specs.Absorbed.{Ready, Fed};
@@ -84,7 +84,8 @@ fn feed_padded(
     s: &[u8],
 ) -> [[u64; 5]; 5]
     requires { ⌜ Ready (now block) (now at) × (now at ≡ 0) × (length (now s) ≤ 65536) ⌝ }
-    ensures { λ r. ⌜ Fed a (now (block .entry)) (now (at .entry)) (bytepad (now (front .entry) ++ encodeString (now (s .entry))) 136) r (now (block .exit)) (now (at .exit)) ⌝ }
+    ensures { λ r. ⌜ Fed a (now (block .entry)) (now (at .entry)) (bytepad (now (front .entry) ++ encodeString (now (s .entry))) 136) r (now (block .exit))
+        (now (at .exit)) ⌝ }
 {
     let b = feed_left(a, block, at, 136);
     let c = feed(b, block, at, front);

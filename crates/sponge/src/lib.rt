@@ -1,22 +1,16 @@
 // SHAKE256 of FIPS 202, and KMAC256 and KMACXOF256 of SP 800-185, on bytes.
 ghost use mathlib.Core.Path.{_≡_};
-ghost use mathlib.Core.List.{[], _∷_, _++_};
+ghost use mathlib.Core.List.{_++_};
 ghost use Prim.Native.Nat.{_≤_};
 ghost use lib.ListN.{length};
-ghost use Rattle.calls.specs.Outcome.{outcome, leaves};
 ghost use Rattle.sponge.specs.Sponge.{shake256};
 ghost use Rattle.sponge.specs.Kmac.{kmac256, kmacxof256};
-ghost use Rattle.sponge.specs.Answers.{within, shakeAnswer, kmacAnswer};
-use calls::Answer;
 
 mod block;
 mod feed;
 mod kmac;
 mod lanes;
 mod squeeze;
-
-// The longest slice that an open call accepts.
-const LIMIT: usize = 65536;
 
 // SHAKE256 of `input`.
 pub fn shake256_into(input: &[u8], out: &mut [u8])
@@ -54,62 +48,4 @@ pub fn kmacxof256_into(key: &[u8], input: &[u8], customization: &[u8], out: &mut
     ensures { λ _. ⌜ now (out .exit) ≡ kmacxof256 (now (key .entry)) (now (input .entry)) (now (customization .entry)) (length (now (out .entry))) ⌝ }
 {
     kmac::kmac(key, input, customization, 0, out);
-}
-
-// SHAKE256 as an open call.
-pub fn shake256(input: &[u8], out: &mut [u8]) -> Answer
-    ensures answer { λ r. ⌜ outcome r ≡ shakeAnswer (now (input .entry)) (now (out .entry)) ⌝ }
-    ensures result { λ _. ⌜ now (out .exit) ≡ leaves (shakeAnswer (now (input .entry)) (now (out .entry))) (shake256 (now (input .entry)) (length (now (out .entry)))) (now (out .entry)) ⌝ }
-{
-    if LIMIT < input.len() {
-        return Answer::Refused(6, 0);
-    }
-    if LIMIT < out.len() {
-        return Answer::Refused(6, 0);
-    }
-    shake256_into(input, out);
-    Answer::Done
-}
-
-// Whether none of the four lengths is above the limit.
-fn all_within(key: usize, input: usize, customization: usize, out: usize) -> bool
-    ensures { λ r. ⌜ r ≡ within (key ∷ input ∷ customization ∷ out ∷ []) ⌝ }
-{
-    if LIMIT < key {
-        return false;
-    }
-    if LIMIT < input {
-        return false;
-    }
-    if LIMIT < customization {
-        return false;
-    }
-    if LIMIT < out {
-        return false;
-    }
-    true
-}
-
-// KMAC256 as an open call.
-pub fn kmac256(key: &[u8], input: &[u8], customization: &[u8], out: &mut [u8]) -> Answer
-    ensures answer { λ r. ⌜ outcome r ≡ kmacAnswer (now (key .entry)) (now (input .entry)) (now (customization .entry)) (now (out .entry)) ⌝ }
-    ensures result { λ _. ⌜ now (out .exit) ≡ leaves (kmacAnswer (now (key .entry)) (now (input .entry)) (now (customization .entry)) (now (out .entry))) (kmac256 (now (key .entry)) (now (input .entry)) (now (customization .entry)) (length (now (out .entry)))) (now (out .entry)) ⌝ }
-{
-    if !all_within(key.len(), input.len(), customization.len(), out.len()) {
-        return Answer::Refused(6, 0);
-    }
-    kmac256_into(key, input, customization, out);
-    Answer::Done
-}
-
-// KMACXOF256 as an open call.
-pub fn kmacxof256(key: &[u8], input: &[u8], customization: &[u8], out: &mut [u8]) -> Answer
-    ensures answer { λ r. ⌜ outcome r ≡ kmacAnswer (now (key .entry)) (now (input .entry)) (now (customization .entry)) (now (out .entry)) ⌝ }
-    ensures result { λ _. ⌜ now (out .exit) ≡ leaves (kmacAnswer (now (key .entry)) (now (input .entry)) (now (customization .entry)) (now (out .entry))) (kmacxof256 (now (key .entry)) (now (input .entry)) (now (customization .entry)) (length (now (out .entry)))) (now (out .entry)) ⌝ }
-{
-    if !all_within(key.len(), input.len(), customization.len(), out.len()) {
-        return Answer::Refused(6, 0);
-    }
-    kmacxof256_into(key, input, customization, out);
-    Answer::Done
 }

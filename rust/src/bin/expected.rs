@@ -1,7 +1,7 @@
 //! Writes what each program of crates/run_* must print, and what it reads, from this implementation and the vectors alone. With `--check` it
 //! writes nothing, and fails where a file differs from what it would write. It is run from the repository's root.
 
-use comparison::expected::{cases, damage, draws, known, middle, numbers, samplers, sheets, sponge, ties, transforms, whole};
+use comparison::expected::{cases, draws, known, middle, numbers, samplers, sheets, sponge, ties, transforms, whole};
 use comparison::sheet::sheet;
 
 fn main() {
@@ -13,7 +13,6 @@ fn main() {
         ("run_arithmetic/stdout", [numbers::text(), middle::text(), transforms::text()].concat().into_bytes()),
         ("run_scheme/stdin", [known::input(), ties::input(), sheets::input()].concat()),
         ("run_scheme/stdout", [known::text(), ties::text(), cases::text(), whole::text(), sheets::text()].concat().into_bytes()),
-        ("run_damage/stdout", damage::text().into_bytes()),
         ("noisesheet/stdin", sheets::BENCH.to_vec()),
         ("noisesheet/stdout", sheet(&sheets::BENCH).into_bytes()),
     ];

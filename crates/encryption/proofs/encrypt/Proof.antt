@@ -1,69 +1,61 @@
 -- `encryption::encrypt` meets its contract: the checks come in the order of the definition, and the work slice is cleared.
 -- Assumes nothing.
 use mathlib.Core.Path.{_≡_, sym, ap, _∙_}
-use mathlib.Core.Bool.{true}
 use Prim.Native.Nat.{ℕ}
 use native.Mathlib.Omega.{arith}
 use borrow.Author.Needs.{needs}
-use borrow.Author.Tests.{eqb-true, not-true, not-false}
 use lib.ListN.{length, replicate}
-use Rattle.calls.specs.Outcome.{Outcome, outcome, accepted, leaves}
-use Rattle.calls.specs.Checks.{allOf}
-use Rattle.calls.proofs.Outcome.{leaves-refused}
-use Rattle.calls.proofs.Checks.{allOf-each}
+use Rattle.calls.specs.Outcome.{outcome, accepted}
 use Rattle.sets.specs.Table.{setOf}
-use Rattle.sets.specs.Derived.{isEncryption}
+use Rattle.sets.proofs.Schemes.{encryption-only}
 use Rattle.sets.proofs.Lengths.{ciphertext-other}
-use Rattle.scheme.specs.Encryption.{ciphertext}
-use Rattle.scheme.specs.Answers.{refuseSet, encryptLengths, encryptAnswer}
-use Rattle.scheme.proofs.Answers.{set-range, encryption-only, by-set, by-lengths, by-draws}
+use Rattle.scheme.specs.Encryption as scheme
+use Rattle.scheme.specs.Answers.{encryptChecks, encryptDraws, encryptAnswer, ciphertextLeft, encryptWork}
+use Rattle.scheme.proofs.Answers.{encrypt-passed}
+use Rattle.scheme_checks.proofs.Laws.{one-refused, one-drawn}
 use Rattle.encryption.proofs.encrypt.Statement.{statement}
 use Rattle.encryption.proofs.encrypt.Tie as tie
 
+-- the entry of the function, from the point where the checks decided
+abbrev start-of : tie.After-enum-told → tie.Start
+start-of c = c .before .before .before .before .before .before .before .before
+
+-- the checks passed
+passed : (c : tie.After-enum-told) → let args = start-of c .args in
+    encryptChecks (args .set) (length (args .public .now)) (length (args .message .now)) (length (args .seed .now))
+    (length (args .ciphertext .now)) (length (args .work .now)) ≡ accepted
+passed c = sym (c .before .before .encrypt-checked .ensures) ∙ ap outcome (c .enum-told .given .1)
+
 returns : tie.Need-returns
-unfolding encryptAnswer
+unfolding encryptAnswer ciphertextLeft encryptWork
 returns c =
-    let start = c .before .before .before .before .before .before .before .before in
-    let told = ap outcome (c .enum-told2 .given .1) in
-    let answered = by-set isEncryption (start .args .set) _ _ (start .args .work .now) (sym (c .before .before .set-checked .ensures) ∙ told) in
-    (told ∙ sym (answered .0), (sym (leaves-refused _ _ (answered .0)), answered .1))
+    let args = c .before .before .before .before .before .before .before .before .args in
+    let p = setOf (args .set) in
+    one-refused (encryptDraws p (args .public .now)) (args .work .now)
+    (scheme.ciphertext p (args .public .now) (args .message .now) (args .seed .now)) (args .ciphertext .now)
+    (c .before .before .encrypt-checked .ensures) (ap outcome (c .enum-told2 .given .1))
 
--- the set is an encryption set
-passed : (c : tie.After-enum-told) → refuseSet isEncryption (c .before .before .before .before .before .before .before .before .args .set) accepted ≡ accepted
-passed c = sym (c .before .before .set-checked .ensures) ∙ ap outcome (c .enum-told .given .1)
-
-encrypt-fits-requires : tie.Need-encrypt-fits-requires
-encrypt-fits-requires c κs = omega (arith, set-range isEncryption (c .before .before .before .before .before .before .before .before .args .set) (passed c) .1)
+encrypt-requires : tie.Need-encrypt-requires
+encrypt-requires c κs =
+    let checked = c .before .before in
+    let set = start-of checked .args .set in
+    let fit = encrypt-passed set _ _ _ _ _ (passed checked) in
+    (fit .0 .0, omega (arith, fit .0 .1), fit .1, fit .2, fit .3, fit .4 ∙ ciphertext-other set (encryption-only set (fit .0 .2)), fit .5)
 
 returns-2 : tie.Need-returns-2
-unfolding encryptAnswer
+unfolding encryptAnswer ciphertextLeft encryptWork
 returns-2 c =
-    let start = c .before .before .before .before .before .before .before .before .before .before in
-    let answered = by-lengths isEncryption (start .args .set) _ _ (start .args .work .now) (passed (c .before .before)) (sym (c .before .encrypt-fits .ensures) ∙ not-true _ (c .if1 .taken)) in
-    (sym (answered .0), (sym (leaves-refused _ _ (answered .0)), answered .1))
-
--- the lengths are the set's
-fits : (c : tie.Else1) → allOf (encryptLengths (c .before .before .before .before .before .before .before .before .before .before .args .set) (length (c .before .before .before .before .before .before .before .before .before .before .args .public .now)) (length (c .before .before .before .before .before .before .before .before .before .before .args .message .now)) (length (c .before .before .before .before .before .before .before .before .before .before .args .seed .now)) (length (c .before .before .before .before .before .before .before .before .before .before .args .sealed .now)) (length (c .before .before .before .before .before .before .before .before .before .before .args .work .now))) ≡ true
-fits c = sym (c .before .encrypt-fits .ensures) ∙ not-false _ (c .if1 .left)
-
-seal-requires : tie.Need-seal-requires
-seal-requires c κs =
-    let start = c .before .before .before .before .before .before .before .before .before .before .before .before in
-    let range = set-range isEncryption (start .args .set) (passed (c .before .before .before .before)) in
-    let other = encryption-only (start .args .set) (range .2) in
-    let each = allOf-each _ (fits (c .before .before)) in
-    (range .0, omega (arith, range .1), eqb-true _ _ (each .0), eqb-true _ _ (each .1 .0), eqb-true _ _ (each .1 .1 .0), eqb-true _ _ (each .1 .1 .1 .0) ∙ ciphertext-other (start .args .set) other, eqb-true _ _ (each .1 .1 .1 .1 .0))
-
-returns-3 : tie.Need-returns-3
-unfolding encryptAnswer
-returns-3 c =
-    let start = c .before .before .before .before .before .before .before .before .before .before .before .before .before .before .before .before .before .before .before .before .before in
-    let read = c .before .before .before .before .before .before .before .before .seal in
-    let cleared = c .before .before .clear .ensures ∙ ap (λ (n : ℕ). replicate n 0) (read .kept .1 .1 .1 .1 .1 .0) in
-    let answered = by-draws isEncryption (start .args .set) _ _ (start .args .work .now) (passed (c .before .before .before .before .before .before .before .before .before .before .before .before .before)) (fits (c .before .before .before .before .before .before .before .before .before .before .before)) cleared in
-    (read .ensures .0 ∙ sym (answered .0), (read .ensures .1 ∙ ap (λ (o : Outcome). leaves o (ciphertext (setOf (start .args .set)) (start .args .public .now) (start .args .message .now) (start .args .seed .now)) (start .args .sealed .now)) (sym (answered .0)), answered .1))
+    let after = c .before .before .before .before .before .before .before .before in
+    let checked = after .before .before .before in
+    let args = start-of checked .args in
+    let p = setOf (args .set) in
+    let made = after .encrypt in
+    one-drawn (encryptDraws p (args .public .now)) (args .work .now)
+    (scheme.ciphertext p (args .public .now) (args .message .now) (args .seed .now)) (args .ciphertext .now)
+    (passed checked) (made .ensures) (c .before .before .clear .ensures ∙ ap (λ (n : ℕ). replicate n 0) (made .kept .1 .1 .1 .1 .1 .0))
 
 pub encrypt-spec : {M : Type 1} → statement M
 encrypt-spec =
     tie.close
-    (tie.spec (λ c κs. search needs) (λ c. search needs) (λ c. search needs) returns encrypt-fits-requires returns-2 seal-requires (λ c κs. search needs) (λ c. search needs) (λ c. search needs) returns-3)
+    (tie.spec (λ c κs. search needs) (λ c. search needs) (λ c. search needs) returns encrypt-requires (λ c κs. search needs)
+    (λ c. search needs) (λ c. search needs) returns-2)

@@ -1,68 +1,62 @@
 -- `exchange::decapsulate` meets its contract: the checks come in the order of the definition, and the work slice is cleared.
 -- Assumes nothing.
 use mathlib.Core.Path.{_≡_, sym, ap, _∙_}
-use mathlib.Core.Bool.{true}
 use Prim.Native.Nat.{ℕ}
 use native.Mathlib.Omega.{arith}
 use borrow.Author.Needs.{needs}
-use borrow.Author.Tests.{eqb-true, not-true, not-false}
 use lib.ListN.{length, replicate}
-use Rattle.calls.specs.Outcome.{Outcome, outcome, accepted, leaves}
-use Rattle.calls.specs.Checks.{allOf}
-use Rattle.calls.proofs.Outcome.{leaves-refused}
-use Rattle.calls.proofs.Checks.{allOf-each}
+use Rattle.calls.specs.Outcome.{outcome, accepted}
 use Rattle.sets.specs.Table.{setOf}
-use Rattle.sets.specs.Derived.{isExchange}
 use Rattle.sets.proofs.Lengths.{secret-exchange, ciphertext-exchange}
 use Rattle.scheme.specs.Exchange.{decapsulated}
-use Rattle.scheme.specs.Answers.{refuseSet, openingLengths, decapsulateAnswer}
-use Rattle.scheme.proofs.Answers.{set-range, by-set, by-lengths, by-draws}
+use Rattle.sets.specs.Derived.{isExchange}
+use Rattle.scheme.specs.Answers.{decryptChecks, decapsulateDraws, decapsulateAnswer, decapsulatedLeft, decapsulateWork}
+use Rattle.scheme.proofs.Answers.{decrypt-passed}
+use Rattle.scheme_checks.proofs.Laws.{one-refused, one-drawn}
 use Rattle.exchange.proofs.decapsulate.Statement.{statement}
 use Rattle.exchange.proofs.decapsulate.Tie as tie
 
+-- the entry of the function, from the point where the checks decided
+abbrev start-of : tie.After-enum-told → tie.Start
+start-of c = c .before .before .before .before .before .before .before
+
+-- the checks passed
+passed : (c : tie.After-enum-told) → let args = start-of c .args in
+    decryptChecks isExchange (args .set) (length (args .secret .now)) (length (args .ciphertext .now)) (length (args .shared .now))
+    (length (args .work .now)) ≡ accepted
+unfolding isExchange
+passed c = sym (c .before .before .decrypt-checked .ensures) ∙ ap outcome (c .enum-told .given .1)
+
 returns : tie.Need-returns
-unfolding decapsulateAnswer
+unfolding isExchange decapsulateAnswer decapsulatedLeft decapsulateWork
 returns c =
-    let start = c .before .before .before .before .before .before .before in
-    let told = ap outcome (c .enum-told2 .given .1) in
-    let answered = by-set isExchange (start .args .set) _ _ (start .args .work .now) (sym (c .before .before .set-checked .ensures) ∙ told) in
-    (told ∙ sym (answered .0), (sym (leaves-refused _ _ (answered .0)), answered .1))
+    let args = c .before .before .before .before .before .before .before .args in
+    let p = setOf (args .set) in
+    one-refused (decapsulateDraws p (args .secret .now)) (args .work .now)
+    (decapsulated p (args .secret .now) (args .ciphertext .now)) (args .shared .now)
+    (c .before .before .decrypt-checked .ensures) (ap outcome (c .enum-told2 .given .1))
 
--- the set is an exchange set
-passed : (c : tie.After-enum-told) → refuseSet isExchange (c .before .before .before .before .before .before .before .args .set) accepted ≡ accepted
-passed c = sym (c .before .before .set-checked .ensures) ∙ ap outcome (c .enum-told .given .1)
-
-decapsulate-fits-requires : tie.Need-decapsulate-fits-requires
-decapsulate-fits-requires c κs = omega (arith, set-range isExchange (c .before .before .before .before .before .before .before .args .set) (passed c) .1)
+decapsulated-key-requires : tie.Need-decapsulated-key-requires
+decapsulated-key-requires c κs =
+    let checked = c .before .before in
+    let set = start-of checked .args .set in
+    let fit = decrypt-passed isExchange set _ _ _ _ (passed checked) in
+    (fit .0 .0, omega (arith, fit .0 .1), fit .1 ∙ secret-exchange set (fit .0 .2), fit .2 ∙ ciphertext-exchange set (fit .0 .2), fit .3, fit .4)
 
 returns-2 : tie.Need-returns-2
-unfolding decapsulateAnswer
+unfolding decapsulateAnswer decapsulatedLeft decapsulateWork
 returns-2 c =
-    let start = c .before .before .before .before .before .before .before .before .before in
-    let answered = by-lengths isExchange (start .args .set) _ _ (start .args .work .now) (passed (c .before .before)) (sym (c .before .decapsulate-fits .ensures) ∙ not-true _ (c .if1 .taken)) in
-    (sym (answered .0), (sym (leaves-refused _ _ (answered .0)), answered .1))
-
--- the lengths are the set's
-fits : (c : tie.Else1) → allOf (openingLengths (c .before .before .before .before .before .before .before .before .before .args .set) (length (c .before .before .before .before .before .before .before .before .before .args .secret .now)) (length (c .before .before .before .before .before .before .before .before .before .args .sealed .now)) (length (c .before .before .before .before .before .before .before .before .before .args .shared .now)) (length (c .before .before .before .before .before .before .before .before .before .args .work .now))) ≡ true
-fits c = sym (c .before .decapsulate-fits .ensures) ∙ not-false _ (c .if1 .left)
-
-open-shared-requires : tie.Need-open-shared-requires
-open-shared-requires c κs =
-    let start = c .before .before .before .before .before .before .before .before .before .before .before in
-    let range = set-range isExchange (start .args .set) (passed (c .before .before .before .before)) in
-    let each = allOf-each _ (fits (c .before .before)) in
-    (range .0, omega (arith, range .1), eqb-true _ _ (each .0) ∙ secret-exchange (start .args .set) (range .2), eqb-true _ _ (each .1 .0) ∙ ciphertext-exchange (start .args .set) (range .2), eqb-true _ _ (each .1 .1 .0), eqb-true _ _ (each .1 .1 .1 .0))
-
-returns-3 : tie.Need-returns-3
-unfolding decapsulateAnswer
-returns-3 c =
-    let start = c .before .before .before .before .before .before .before .before .before .before .before .before .before .before .before .before .before .before .before .before in
-    let read = c .before .before .before .before .before .before .before .before .open-shared in
-    let cleared = c .before .before .clear .ensures ∙ ap (λ (n : ℕ). replicate n 0) (read .kept .1 .1 .1 .1 .0) in
-    let answered = by-draws isExchange (start .args .set) _ _ (start .args .work .now) (passed (c .before .before .before .before .before .before .before .before .before .before .before .before .before)) (fits (c .before .before .before .before .before .before .before .before .before .before .before)) cleared in
-    (read .ensures .0 ∙ sym (answered .0), (read .ensures .1 ∙ ap (λ (o : Outcome). leaves o (decapsulated (setOf (start .args .set)) (start .args .secret .now) (start .args .sealed .now)) (start .args .shared .now)) (sym (answered .0)), answered .1))
+    let after = c .before .before .before .before .before .before .before .before in
+    let checked = after .before .before .before in
+    let args = start-of checked .args in
+    let p = setOf (args .set) in
+    let made = after .decapsulated-key in
+    one-drawn (decapsulateDraws p (args .secret .now)) (args .work .now)
+    (decapsulated p (args .secret .now) (args .ciphertext .now)) (args .shared .now)
+    (passed checked) (made .ensures) (c .before .before .clear .ensures ∙ ap (λ (n : ℕ). replicate n 0) (made .kept .1 .1 .1 .1 .0))
 
 pub decapsulate-spec : {M : Type 1} → statement M
 decapsulate-spec =
     tie.close
-    (tie.spec (λ c κs. search needs) (λ c. search needs) (λ c. search needs) returns decapsulate-fits-requires returns-2 open-shared-requires (λ c κs. search needs) (λ c. search needs) (λ c. search needs) returns-3)
+    (tie.spec (λ c κs. search needs) (λ c. search needs) (λ c. search needs) returns decapsulated-key-requires (λ c κs. search needs)
+    (λ c. search needs) (λ c. search needs) returns-2)

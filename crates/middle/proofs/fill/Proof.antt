@@ -23,7 +23,10 @@ loop-holds c = filled-none (middleProduct-length _ _ _ _) (omega arith)
 loop-again : tie.Need-loop-again Inv-loop μ-loop
 loop-again c =
     let start = c .before .before .before .before .before .before in
-    filled-more 0 (c .before .before .loop .inv) (omega arith) (omega arith) (c .product-place .ensures ∙ sym (middleProduct-at (start .args .q) (start .args .a .now) (start .args .b .now) (length (start .args .out .now)) (c .before .before .loop .i) (omega arith)))
+    filled-more 0 (c .before .before .loop .inv) (omega arith) (omega arith)
+    (c .product-place .ensures
+    ∙ sym (middleProduct-at (start .args .q) (start .args .a .now) (start .args .b .now) (length (start .args .out .now)) (c .before .before .loop .i)
+    (omega arith)))
 
 returns : tie.Need-returns Inv-loop μ-loop
 returns c = filled-whole (c .before .loop .inv) refl (omega arith)

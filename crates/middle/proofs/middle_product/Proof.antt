@@ -30,14 +30,23 @@ returns-2 c =
     refused-call _ _ (opening-lengths _ _ 6 _ (c .before .before .before .if1 .left) (sym (c .before .lengths-fit .ensures) ∙ not-true _ (c .if2 .taken)))
 
 -- where the lengths fit
-lengths : (c : tie.Else2) → allOf (middleShape (length (c .before .before .before .before .before .before .before .args .a .now)) (length (c .before .before .before .before .before .before .before .args .b .now)) (length (c .before .before .before .before .before .before .before .args .out .now))) ≡ true
+lengths : (c : tie.Else2)
+    → allOf (middleShape (length (c .before .before .before .before .before .before .before .args .a .now))
+    (length (c .before .before .before .before .before .before .before .args .b .now))
+    (length (c .before .before .before .before .before .before .before .args .out .now))) ≡ true
 lengths c = sym (c .before .lengths-fit .ensures) ∙ not-false _ (c .if2 .left)
 
 -- the numbers decide
-decided : (c : tie.After-two-checked) → middleAnswer (c .before .before .before .before .before .before .before .before .args .set) (c .before .before .before .before .before .before .before .before .args .a .now) (c .before .before .before .before .before .before .before .before .args .b .now) (length (c .before .before .before .before .before .before .before .before .args .out .now)) ≡ outcome (c .two-checked .result)
+decided : (c : tie.After-two-checked)
+    → middleAnswer (c .before .before .before .before .before .before .before .before .args .set)
+    (c .before .before .before .before .before .before .before .before .args .a .now)
+    (c .before .before .before .before .before .before .before .before .args .b .now)
+    (length (c .before .before .before .before .before .before .before .before .args .out .now)) ≡ outcome (c .two-checked .result)
 decided c =
     let start = c .before .before .before .before .before .before .before .before in
-    middle-numbers (start .args .set) (start .args .a .now) (start .args .b .now) (length (start .args .out .now)) (c .before .before .before .parameters-of .result .q) (ap (λ (p : Parameters). p .q) (c .before .before .before .parameters-of .ensures)) (c .before .before .before .before .if1 .left) (lengths (c .before))
+    middle-numbers (start .args .set) (start .args .a .now) (start .args .b .now) (length (start .args .out .now))
+    (c .before .before .before .parameters-of .result .q) (ap (λ (p : Parameters). p .q) (c .before .before .before .parameters-of .ensures))
+    (c .before .before .before .before .if1 .left) (lengths (c .before))
     ∙ sym (c .two-checked .ensures)
 
 two-checked-requires : tie.Need-two-checked-requires
@@ -45,12 +54,14 @@ two-checked-requires c κs = let each = allOf-each _ (lengths c) in omega (arith
 
 fill-requires : tie.Need-fill-requires
 fill-requires c κs =
-    let start = c .before .before .before .before .before .before .before .before .before .before .before in
+    let at-else1 = c .before .before .before .before .before .before .before in
+    let start = at-else1 .before .before .before .before in
     let q = c .before .before .before .before .before .before .parameters-of .result .q in
     let a = start .args .a .now in
     let b = start .args .b .now in
     let each = allOf-each _ (lengths (c .before .before .before .before)) in
-    let kept = rw (← c .before .before .before .before .before .before .parameters-of .ensures) at (rules (start .args .set) (omega (arith, c .before .before .before .before .before .before .before .if1 .left))) in
+    let kept = rw (← c .before .before .before .before .before .before .parameters-of .ensures) at
+    (rules (start .args .set) (omega (arith, at-else1 .if1 .left))) in
     let numbers = accepted-two q a b accepted (sym (c .before .before .before .two-checked .ensures) ∙ ap outcome (c .before .enum-told .given .1)) in (
       operand (kept .small) (omega (arith, leb-true, eqb-true)) (numbers .0),
       operand (kept .small) (omega (arith, leb-true, eqb-true)) (numbers .1),

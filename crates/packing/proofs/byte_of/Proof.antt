@@ -15,14 +15,21 @@ moved x cmp kept h k =
 
 -- the second number, moved up
 second : (c : tie.After-number-at2) → c .number-at2 .result / 2 ^ c .before .before .before .args .cmp * 2 ^ c .before .before .before .args .kept < 2 ^ 56
-second c = moved (c .number-at2 .result) (c .before .before .before .args .cmp) (c .before .before .before .args .kept) (c .number-at2 .ensures .1) (omega arith)
+second c = moved (c .number-at2 .result) (c .before .before .before .args .cmp) (c .before .before .before .args .kept) (c .number-at2 .ensures .1)
+    (omega arith)
 
 add-result : tie.Need-add-result
 add-result c = omega (arith, second c, shr-le (c .before .number-at .result) (c .before .before .before .args .cmp))
 
 returns : tie.Need-returns
 returns c =
-    rw (← c .before .number-at .ensures .0, ← c .number-at2 .ensures .0, mul-comm (2 ^ c .before .before .before .args .kept), mod-eq-of-lt {m = 2 ^ 64} (lt-of-lt-of-le (second c) (omega arith)))
+    rw (
+      ← c .before .number-at .ensures .0,
+      ← c .number-at2 .ensures .0,
+      mul-comm (2 ^ c .before .before .before .args .kept),
+      mod-eq-of-lt {m = 2 ^ 64}
+          (lt-of-lt-of-le (second c) (omega arith)),
+    )
 
 pub byte-of-spec : {M : Type 1} → statement M
 byte-of-spec =

@@ -35,10 +35,12 @@ loop-again c =
     let now = c .before .before .before .loop in
     let p = now .inv .0 in
     let more : now .j < length (a .out .now) = omega arith in (
-      ⊎-elim (λ w. position-next 1 p (omega arith) (omega arith) (omega arith)) (λ w. position-next 0 p (omega arith) (omega arith) (omega arith)) (c .if1 .came),
+      ⊎-elim (λ w. position-next 1 p (omega arith) (omega arith) (omega arith)) (λ w. position-next 0 p (omega arith) (omega arith) (omega arith))
+          (c .if1 .came),
       filled-more 0 (now .inv .1) more (omega arith)
           (c .before .byte-of .ensures
-          ∙ sym (packDropping-at (a .width) (a .cmp) (length (a .out .now)) (now .i) (now .bit) (now .j) (a .numbers .now) (c .before .before .before .before .before .before .pre .0) (c .before .before .before .before .before .before .pre .1) p more)),
+          ∙ sym (packDropping-at (a .width) (a .cmp) (length (a .out .now)) (now .i) (now .bit) (now .j) (a .numbers .now)
+          (c .before .before .before .before .before .before .pre .0) (c .before .before .before .before .before .before .pre .1) p more)),
     )
 
 returns : tie.Need-returns Inv-loop μ-loop

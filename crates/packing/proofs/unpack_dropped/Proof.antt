@@ -38,7 +38,8 @@ loop-again c =
       position-next ((now .bit + (a .width - a .cmp)) / 8) (now .inv .0) refl (omega arith) (omega arith),
       filled-more 0 (now .inv .1) more (omega arith)
           (c .number-of .ensures
-          ∙ sym (unpackDropped-at (a .width) (a .cmp) (length (a .out .now)) (now .i) (now .bit) (now .j) (a .bytes .now) (start .pre) (λ k. byte k .fits) (now .inv .0) more)),
+          ∙ sym (unpackDropped-at (a .width) (a .cmp) (length (a .out .now)) (now .i) (now .bit) (now .j) (a .bytes .now) (start .pre) (λ k. byte k .fits)
+          (now .inv .0) more)),
     )
 
 returns : tie.Need-returns Inv-loop μ-loop

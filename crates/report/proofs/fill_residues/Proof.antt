@@ -21,7 +21,8 @@ record Filling (q : ℕ) (old new : List ℕ) (x i : ℕ) : Type 0 where
   below : (j : ℕ) → j < i → getD new j 0 < q
 
 -- one number more
-filling-more : {q : ℕ} {old new : List ℕ} {x i : ℕ} (y v : ℕ) → Filling q old new x i → i < length new → y < 2147483648 → v < q → Filling q old (set new i v) y (i + 1)
+filling-more : {q : ℕ} {old new : List ℕ} {x i : ℕ} (y v : ℕ) → Filling q old new x i → i < length new → y < 2147483648 → v < q
+    → Filling q old (set new i v) y (i + 1)
 filling-more {q} {old} {new} {x} {i} y v f h k b =
     record {
       within = rw length-set (omega arith);

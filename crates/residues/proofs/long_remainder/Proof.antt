@@ -9,7 +9,8 @@ use Rattle.residues.proofs.long_remainder.Tie as tie
 returns : tie.Need-returns
 returns c =
     let start = c .before .before in
-    c .short-remainder .ensures ∙ upper-reduced (start .args .q) (start .args .x) (c .before .partial-remainder .result) (c .before .partial-remainder .ensures .0)
+    c .short-remainder .ensures ∙ upper-reduced (start .args .q) (start .args .x) (c .before .partial-remainder .result)
+    (c .before .partial-remainder .ensures .0)
 
 pub long-remainder-spec : {M : Type 1} → statement M
 long-remainder-spec =

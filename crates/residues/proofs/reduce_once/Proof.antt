@@ -1,10 +1,8 @@
 -- `residues::reduce_once` meets its contract: by what is carried, q is subtracted once or not at all.
 -- Assumes nothing.
-use Prim.Native.Nat.{_-_, _*_, _%_, _≤_}
-use mathlib.Core.Path.{_≡_}
 use native.Mathlib.Omega.{arith}
 use borrow.Author.Needs.{needs}
-use Rattle.residues.proofs.Remainder.{carry, carried}
+use Rattle.residues.proofs.Remainder.{carried}
 use Rattle.residues.proofs.reduce_once.Statement.{statement}
 use Rattle.residues.proofs.reduce_once.Tie as tie
 

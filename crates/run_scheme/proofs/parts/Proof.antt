@@ -8,7 +8,8 @@ use Rattle.run_scheme.proofs.parts.Statement.{statement}
 use Rattle.run_scheme.proofs.parts.Tie as tie
 
 abbrev Inv-loop : tie.InvT-loop
-Inv-loop input public₀ secret₀ sealed₀ i₀ public secret sealed i = (length public ≡ length public₀) × (length secret ≡ length secret₀) × (length sealed ≡ length sealed₀)
+Inv-loop input public₀ secret₀ sealed₀ i₀ public secret sealed i = (length public ≡ length public₀) × (length secret ≡ length secret₀)
+    × (length sealed ≡ length sealed₀)
 
 abbrev μ-loop : tie.MeasureT-loop
 μ-loop input public₀ secret₀ sealed₀ i₀ public secret sealed i = 2522 - i

@@ -7,11 +7,12 @@ use borrow.Author.Needs.{needs}
 use Rattle.samplers.proofs.errors_from.Statement.{statement}
 use Rattle.samplers.proofs.errors_from.Tie as tie
 
-errors-through-requires : tie.Need-errors-through-requires
-errors-through-requires c κs =
+errors-with-buffers-requires : tie.Need-errors-with-buffers-requires
+errors-with-buffers-requires c κs =
     let size = c .before .before .error-draw-bytes in
     let pre = c .before .before .before .before .before .pre in
-    (pre .0, pre .1, pre .2, array-front 10240 (size .result) (omega (arith, size .ensures, pre .1 .most-error-bytes)) ∙ size .ensures, pre .3)
+    let bytes = array-front 10240 (size .result) (omega (arith, size .ensures, pre .0 .1 .most-error-bytes)) ∙ size .ensures in
+    ((pre .0 .0, pre .0 .1, pre .0 .2, pre .1), (bytes, pre .0 .3))
 
 pub errors-from-spec : {M : Type 1} → statement M
 errors-from-spec =
@@ -21,6 +22,6 @@ errors-from-spec =
     (λ c. search needs)
     (λ c. search needs)
     (λ c. search needs)
-    errors-through-requires
+    errors-with-buffers-requires
     (λ c. search needs)
     (λ c. search needs))

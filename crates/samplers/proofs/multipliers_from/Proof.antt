@@ -7,11 +7,12 @@ use borrow.Author.Needs.{needs}
 use Rattle.samplers.proofs.multipliers_from.Statement.{statement}
 use Rattle.samplers.proofs.multipliers_from.Tie as tie
 
-multipliers-through-requires : tie.Need-multipliers-through-requires
-multipliers-through-requires c κs =
+multipliers-with-buffers-requires : tie.Need-multipliers-with-buffers-requires
+multipliers-with-buffers-requires c κs =
     let size = c .before .before .multiplier-draw-bytes in
     let pre = c .before .before .before .before .before .pre in
-    (pre .0, pre .1, pre .2, array-front 15232 (size .result) (omega (arith, size .ensures, pre .1 .most-multiplier-bytes)) ∙ size .ensures, pre .3)
+    let bytes = array-front 15232 (size .result) (omega (arith, size .ensures, pre .1 .most-multiplier-bytes)) ∙ size .ensures in
+    ((pre .0, pre .1, pre .2), (bytes, pre .3))
 
 pub multipliers-from-spec : {M : Type 1} → statement M
 multipliers-from-spec =
@@ -21,6 +22,6 @@ multipliers-from-spec =
     (λ c. search needs)
     (λ c. search needs)
     (λ c. search needs)
-    multipliers-through-requires
+    multipliers-with-buffers-requires
     (λ c. search needs)
     (λ c. search needs))

@@ -27,10 +27,13 @@ write-requires c κs = (c .before .before .before .if1 .left, work-is (c .before
 
 returns-3 : tie.Need-returns-3
 returns-3 c =
-    let args = c .before .before .before .before .before .before .before .before .before .before .before .before .before .before .before .before .args in
-    let bytes = c .before .before .before .before .before .before .before .before .before .before .before .before .before .before .before .shared-slice-known .given in
-    let made = c .before .before .before .before .before .before .before .before .write in
-    sheet-written (args .input .now) (args .text .now) (args .work .now) (λ k. bytes k .fits) (both-fit (length (args .text .now)) (length (args .work .now)) (c .before .before .before .before .before .before .before .before .before .before .before .before .if1 .left) (c .before .before .before .before .before .before .before .before .before .before .before .if2 .left)) (made .ensures) (c .before .before .clear .ensures ∙ ap (λ (n : ℕ). replicate n 0) (made .kept .1 .1 .0))
+    let at-write = c .before .before .before .before .before .before .before .before in
+    let args = at-write .before .before .before .before .before .before .before .before .args in
+    let bytes = at-write .before .before .before .before .before .before .before .shared-slice-known .given in
+    let made = at-write .write in
+    sheet-written (args .input .now) (args .text .now) (args .work .now) (λ k. bytes k .fits)
+    (both-fit (length (args .text .now)) (length (args .work .now)) (at-write .before .before .before .before .if1 .left)
+    (at-write .before .before .before .if2 .left)) (made .ensures) (c .before .before .clear .ensures ∙ ap (λ (n : ℕ). replicate n 0) (made .kept .1 .1 .0))
 
 pub sheet-spec : {M : Type 1} → statement M
 sheet-spec =

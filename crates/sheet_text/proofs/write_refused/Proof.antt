@@ -23,15 +23,19 @@ put-number-requires c κs =
 put-number-requires-2 : tie.Need-put-number-requires-2
 unfolding text.refusedText text.refusedWord
 put-number-requires-2 c κs =
-    let start = c .before .before .before .before .before .before .before .before .before .before .before in
+    let at-put-bytes = c .before .before .before .before .before .before .before in
+    let start = at-put-bytes .before .before .before .before in
     let fits = refused-length (start .args .number) (start .args .place) (start .fits .number .fits) (start .fits .place .fits) in
-    room-next (written-append (c .before .before .before .before .before .before .before .put-bytes .ensures) (c .before .before .before .put-number .ensures)) (decimal (start .args .place) ++ newline) (omega arith)
+    room-next (written-append (at-put-bytes .put-bytes .ensures) (c .before .before .before .put-number .ensures)) (decimal (start .args .place) ++ newline)
+    (omega arith)
 
 returns : tie.Need-returns
 unfolding text.refusedText text.refusedWord
 returns c =
-    let all = written-append (written-append (c .before .before .before .before .before .before .before .before .before .before .put-bytes .ensures) (c .before .before .before .before .before .before .put-number .ensures)) (c .before .before .put-number2 .ensures) in
-    let start = c .before .before .before .before .before .before .before .before .before .before .before .before .before .before in
+    let at-out = c .before .before .before .before .before .before .before .before .before in
+    let all = written-append (written-append (at-out .before .put-bytes .ensures) (c .before .before .before .before .before .before .put-number .ensures))
+    (c .before .before .put-number2 .ensures) in
+    let start = at-out .before .before .before .before .before in
     let fits = refused-length (start .args .number) (start .args .place) (start .fits .number .fits) (start .fits .place .fits) in
     (all .after ∙ omega arith, (all .written, omega (arith, all .after)))
 

@@ -41,7 +41,13 @@ returns c =
     let fits : SFits w32 (c .multiplier-of .result) = search needs in
     let size = c .before .before .before .before in
     toZ-ofZ fits ∙ c .multiplier-of .ensures
-    ∙ rw (c .before .multiplier-bits .ensures, size .number-at .ensures, c .before .before .sign-at .ensures, size .before .multiplier-bytes .ensures, c .before .before .before .signs-at .ensures)
+    ∙ rw (
+      c .before .multiplier-bits .ensures,
+      size .number-at .ensures,
+      c .before .before .sign-at .ensures,
+      size .before .multiplier-bytes .ensures,
+      c .before .before .before .signs-at .ensures,
+    )
 
 pub multiplier-at-spec : {M : Type 1} → statement M
 multiplier-at-spec =

@@ -25,7 +25,8 @@ returns-2 c =
     let a = start .args .a .now in
     let b = start .args .b .now in
     let later = refuseFirst (below q) 0 (length a) b accepted in
-    c .one-checked2 .ensures ∙ first-accepted (below q) 0 a later (c .before .before .before .one-checked .ensures) (c .before .enum-told .given .1) ∙ sym (two-slices q a b accepted)
+    c .one-checked2 .ensures ∙ first-accepted (below q) 0 a later (c .before .before .before .one-checked .ensures) (c .before .enum-told .given .1)
+    ∙ sym (two-slices q a b accepted)
 
 pub two-checked-spec : {M : Type 1} → statement M
 two-checked-spec =

@@ -34,7 +34,8 @@ loop-again c =
     part-more inv (omega arith) (c .product .ensures) (term-small c)
 
 returns : tie.Need-returns Inv-loop μ-loop
-returns c = c .reduce .ensures ∙ rw (part-all (c .before .before .loop .inv) (c .before .before .before .before .end-meeting .ensures) (c .before .loop-test .left))
+returns c =
+    c .reduce .ensures ∙ rw (part-all (c .before .before .loop .inv) (c .before .before .before .before .end-meeting .ensures) (c .before .loop-test .left))
 
 pub product-place-spec : {M : Type 1} → statement M
 product-place-spec =

@@ -27,17 +27,21 @@ loop-holds c = (search needs, below-none _)
 
 -- a turn tests the number at its place
 tested : (c : tie.After-is-multiplier Inv-loop μ-loop)
-    → c .is-multiplier .result ≡ isMultiplier (c .before .before .before .before .args .p) (c .before .before .before .loop .i) (getD (c .before .before .before .before .args .rs .now) (c .before .before .before .loop .i) (pos 0))
+    → c .is-multiplier .result
+    ≡ isMultiplier (c .before .before .before .before .args .p) (c .before .before .before .loop .i)
+    (getD (c .before .before .before .before .args .rs .now) (c .before .before .before .loop .i) (pos 0))
 tested c =
     let start = c .before .before .before .before in
     let i = c .before .before .before .loop .i in
-    c .is-multiplier .ensures ∙ ap (λ (z : ℤ). isMultiplier (start .args .p) i z) (entry-kept (getD (start .args .rs .now) i (pos 0)) (c .before .is-multiplier-arg .given))
+    c .is-multiplier .ensures
+    ∙ ap (λ (z : ℤ). isMultiplier (start .args .p) i z) (entry-kept (getD (start .args .rs .now) i (pos 0)) (c .before .is-multiplier-arg .given))
 
 returns : tie.Need-returns Inv-loop μ-loop
 returns c =
     let start = c .before .before .before .before .before in
     let at = c .before .before .before .before .loop in
-    passing-is (isMultiplier (start .args .p)) 0 (start .args .rs .now) (pos 0) (at .i) (at .inv .0) (λ k h. rw zero-add (at .inv .1 k h)) (λ h. rw zero-add (sym (tested (c .before)) ∙ not-true _ (c .if1 .taken)))
+    passing-is (isMultiplier (start .args .p)) 0 (start .args .rs .now) (pos 0) (at .i) (at .inv .0) (λ k h. rw zero-add (at .inv .1 k h))
+    (λ h. rw zero-add (sym (tested (c .before)) ∙ not-true _ (c .if1 .taken)))
 
 loop-again : tie.Need-loop-again Inv-loop μ-loop
 loop-again c = (search needs, below-more _ _ (c .before .before .before .before .loop .inv .1) (sym (tested (c .before)) ∙ not-false _ (c .if1 .left)))
@@ -46,7 +50,8 @@ returns-2 : tie.Need-returns-2 Inv-loop μ-loop
 returns-2 c =
     let start = c .before .before in
     let at = c .before .loop in
-    passing-is (isMultiplier (start .args .p)) 0 (start .args .rs .now) (pos 0) (at .i) (at .inv .0) (λ k h. rw zero-add (at .inv .1 k h)) (λ h. absurd (omega arith))
+    passing-is (isMultiplier (start .args .p)) 0 (start .args .rs .now) (pos 0) (at .i) (at .inv .0) (λ k h. rw zero-add (at .inv .1 k h))
+    (λ h. absurd (omega arith))
 
 pub first-non-multiplier-spec : {M : Type 1} → statement M
 first-non-multiplier-spec =

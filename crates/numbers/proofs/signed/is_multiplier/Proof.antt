@@ -15,10 +15,14 @@ zero-tested : (c : tie.After-size-within) → c .size-within .result ≡ leb (na
 zero-tested c = rw (toZ-ofZ w32 (c .before .args .z) (c .before .fits .z)) at (c .size-within .ensures)
 
 returns : tie.Need-returns
-returns c = let start = c .before .before in multiplier-zero (start .args .p) (start .args .position) (start .args .z) (sym (zero-tested (c .before)) ∙ c .if1 .taken)
+returns c =
+    let start = c .before .before in
+    multiplier-zero (start .args .p) (start .args .position) (start .args .z) (sym (zero-tested (c .before)) ∙ c .if1 .taken)
 
 size-within-requires-2 : tie.Need-size-within-requires-2
-size-within-requires-2 c κs = let start = c .before .before .before in rw (c .multiplier-bound .ensures) (bound-small (start .args .p) (start .pre) (start .args .position))
+size-within-requires-2 c κs =
+    let start = c .before .before .before in
+    rw (c .multiplier-bound .ensures) (bound-small (start .args .p) (start .pre) (start .args .position))
 
 returns-2 : tie.Need-returns-2
 returns-2 c =

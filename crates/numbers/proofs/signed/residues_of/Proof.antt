@@ -33,14 +33,16 @@ of-signed-requires : tie.Need-of-signed-requires Inv-loop μ-loop
 of-signed-requires c κs =
     let start = c .before .before .before .before in
     let i = c .before .before .loop .i in
-    rw (entry-kept (getD (start .args .zs .now) i (pos 0)) (c .of-signed-arg .given)) (start .pre .0, start .pre .1, start .pre .3 i (omega (arith, start .pre .2)))
+    rw (entry-kept (getD (start .args .zs .now) i (pos 0)) (c .of-signed-arg .given))
+    (start .pre .0, start .pre .1, start .pre .3 i (omega (arith, start .pre .2)))
 
 loop-again : tie.Need-loop-again Inv-loop μ-loop
 loop-again c =
     let start = c .before .before .before .before .before in
     let i = c .before .before .before .loop .i in
     filled-more 0 (c .before .before .before .loop .inv) (omega arith) (omega arith)
-    (c .of-signed .ensures ∙ ap (residue (start .args .q)) (entry-kept (getD (start .args .zs .now) i (pos 0)) (c .before .of-signed-arg .given)) ∙ sym (residues-at (start .args .q) (start .args .zs .now) i))
+    (c .of-signed .ensures ∙ ap (residue (start .args .q)) (entry-kept (getD (start .args .zs .now) i (pos 0)) (c .before .of-signed-arg .given))
+    ∙ sym (residues-at (start .args .q) (start .args .zs .now) i))
 
 returns : tie.Need-returns Inv-loop μ-loop
 returns c = filled-whole (c .before .loop .inv) refl (omega arith)

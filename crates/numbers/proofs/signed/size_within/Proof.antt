@@ -16,7 +16,9 @@ returns-2 : tie.Need-returns-2
 returns-2 c = let start = c .before .before in sym (stored-beneath (start .args .z) (start .args .limit) (start .fits .z) (start .pre) (c .if2 .taken))
 
 returns-3 : tie.Need-returns-3
-returns-3 c = let start = c .before .before in sym (stored-between (start .args .z) (start .args .limit) (start .fits .z) (start .pre) (c .before .if1 .left) (c .if2 .left))
+returns-3 c =
+    let start = c .before .before in
+    sym (stored-between (start .args .z) (start .args .limit) (start .fits .z) (start .pre) (c .before .if1 .left) (c .if2 .left))
 
 pub size-within-spec : {M : Type 1} → statement M
 size-within-spec = tie.close (tie.spec (λ c. search needs) returns sub-if2 returns-2 returns-3)

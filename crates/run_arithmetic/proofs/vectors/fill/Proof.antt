@@ -11,7 +11,13 @@ returns c =
     record {
       size = omega (arith, pre .3);
       inside = pre .2;
-      residues = record { each = λ j h. omega (arith, c .before .before .fill-residues .ensures j (omega (arith, pre .2, pre .3)), c .before .before .before .modulus-of .ensures .0) };
+      residues = record {
+        each = λ j h. omega (
+          arith,
+          c .before .before .fill-residues .ensures j (omega (arith, pre .2, pre .3)),
+          c .before .before .before .modulus-of .ensures .0,
+        );
+      };
     }
 
 pub fill-spec : {M : Type 1} → statement M

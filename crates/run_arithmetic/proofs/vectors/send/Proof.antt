@@ -1,6 +1,6 @@
 -- A vector that is sent holds residues.
 -- Assumes nothing.
-use Rattle.transformed.proofs.Laws.{sent-placed}
+use Rattle.ntt_products.proofs.Laws.{sent-placed}
 use borrow.Author.Needs.{needs}
 use Rattle.run_arithmetic.proofs.vectors.send.Statement.{statement}
 use Rattle.run_arithmetic.proofs.vectors.send.Tie as tie

@@ -13,7 +13,9 @@ returns : tie.Need-returns
 returns c =
     let size = c .size-of .ensures in
     let kept = rules (c .before .args .set) (c .before .pre) in
-    let least = by-size (setOf (c .before .args .set)) (c .before .args .i) (λ (D : ℕ). 2 ≤ D) (omega (arith, kept .holds1, kept .some-d, kept .some-k)) (omega (arith, kept .holds1, kept .some-d, kept .some-k, kept .rising1)) (omega (arith, kept .holds1, kept .some-d, kept .some-k, kept .rising1, kept .rising2)) in
+    let least = by-size (setOf (c .before .args .set)) (c .before .args .i) (λ (D : ℕ). 2 ≤ D) (omega (arith, kept .holds1, kept .some-d, kept .some-k))
+    (omega (arith, kept .holds1, kept .some-d, kept .some-k, kept .rising1))
+    (omega (arith, kept .holds1, kept .some-d, kept .some-k, kept .rising1, kept .rising2)) in
     (size, omega (arith, size, least), omega (arith, size, size-most (c .before .args .set) (c .before .pre) (c .before .args .i)))
 
 pub size-of-spec : {M : Type 1} → statement M

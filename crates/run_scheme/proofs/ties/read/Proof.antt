@@ -4,7 +4,7 @@ use mathlib.Core.Path.{ap, _∙_}
 use native.Mathlib.Omega.{arith}
 use borrow.Author.Needs.{needs}
 use Rattle.sets.specs.Rules.{Rules}
-use Rattle.sets.specs.Derived.{sealedBytes}
+use Rattle.sets.specs.Derived.{cpaCiphertextBytes}
 use Rattle.sets.proofs.Rules.{rules-of}
 use Rattle.scheme.specs.Answers.{workLength}
 use Rattle.run_scheme.proofs.ties.read.Statement.{statement}
@@ -16,20 +16,20 @@ kept c =
     let start = c .before .before .before .before .before .before .before in
     rules-of (start .args .set) (omega (arith, c .before .if2 .left)) _ (c .parameters-of .ensures)
 
-sealed-bytes-requires : tie.Need-sealed-bytes-requires
-sealed-bytes-requires c κs = kept (c .before)
+cpa-ciphertext-bytes-requires : tie.Need-cpa-ciphertext-bytes-requires
+cpa-ciphertext-bytes-requires c κs = kept (c .before)
 
 work-length-requires : tie.Need-work-length-requires
 work-length-requires c κs = kept (c .before .before .before .before)
 
-open-requires : tie.Need-open-requires
-open-requires c κs =
+decrypt-requires : tie.Need-decrypt-requires
+decrypt-requires c κs =
     let sixth = c .before .before in
     let fourth = sixth .before .before .before in
     let third = fourth .before .before in
     let second = third .before .before in
     let table = third .before .parameters-of .ensures in
-    let sealed = fourth .if4 .left ∙ fourth .before .sealed-bytes .ensures ∙ ap sealedBytes table in
+    let sealed = fourth .if4 .left ∙ fourth .before .cpa-ciphertext-bytes .ensures ∙ ap cpaCiphertextBytes table in
     let work = sixth .if6 .left ∙ sixth .before .work-length .ensures ∙ ap workLength table in
     (second .before .if1 .left, omega (arith, second .if2 .left), third .if3 .left, sealed, sixth .before .before .if5 .left, work)
 
@@ -41,12 +41,12 @@ read-spec =
     (λ c. search needs)
     (λ c κs. search needs)
     (λ c. search needs)
-    sealed-bytes-requires
+    cpa-ciphertext-bytes-requires
     (λ c. search needs)
     (λ c. search needs)
     work-length-requires
     (λ c. search needs)
-    open-requires
+    decrypt-requires
     (λ c. search needs)
     (λ c. search needs)
     (λ c. search needs))

@@ -25,7 +25,8 @@ unfolding errorAt
 returns c =
     let fits : SFits w32 (c .before .error-of .result) = search needs in
     let start = c .before .before .before .before .before in
-    c .of-signed .ensures ∙ ap (residue (start .args .p .q)) (toZ-ofZ fits ∙ c .before .error-of .ensures ∙ rw (c .before .before .before .error-byte .ensures .0))
+    c .of-signed .ensures
+    ∙ ap (residue (start .args .p .q)) (toZ-ofZ fits ∙ c .before .error-of .ensures ∙ rw (c .before .before .before .error-byte .ensures .0))
 
 pub error-residue-spec : {M : Type 1} → statement M
 error-residue-spec = tie.close (tie.spec (λ c κs. search needs) (λ c. search needs) (λ c κs. search needs) of-signed-requires returns)

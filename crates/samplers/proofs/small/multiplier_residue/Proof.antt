@@ -23,7 +23,8 @@ of-signed-requires : tie.Need-of-signed-requires
 of-signed-requires c κs =
     let start = c .before .before in
     let fits : SFits w32 (c .multiplier-at .result) = search needs in
-    let size : natAbs (c .multiplier-at .result) ≤ 512 = rw (c .multiplier-at .ensures) (multiplier-512 (start .args .p) (start .pre .0) _ (start .args .position)) in
+    let size : natAbs (c .multiplier-at .result) ≤ 512 =
+    rw (c .multiplier-at .ensures) (multiplier-512 (start .args .p) (start .pre .0) _ (start .args .position)) in
     (search needs, search needs, rw (toZ-ofZ fits) (omega arith))
 
 returns : tie.Need-returns

@@ -4,20 +4,20 @@ use mathlib.Core.Path.{_≡_, ap}
 use mathlib.Core.Bool.{true, false}
 use native.Mathlib.Omega.{arith}
 use borrow.Author.Needs.{needs}
-use Rattle.sets.specs.Derived.{sealedBytes, isExchange}
+use Rattle.sets.specs.Derived.{cpaCiphertextBytes, isExchange}
 use Rattle.sets.proofs.Lengths.{ciphertext-exchange, ciphertext-other}
 use Rattle.sets.proofs.Rules.{rules}
 use Rattle.sets.proofs.derived.ciphertext_bytes.Statement.{statement}
 use Rattle.sets.proofs.derived.ciphertext_bytes.Tie as tie
 
-sealed-bytes-requires : tie.Need-sealed-bytes-requires
-sealed-bytes-requires c κs = rw (c .parameters-of .ensures) (rules (c .before .args .set) (c .before .pre))
+cpa-ciphertext-bytes-requires : tie.Need-cpa-ciphertext-bytes-requires
+cpa-ciphertext-bytes-requires c κs = rw (c .parameters-of .ensures) (rules (c .before .args .set) (c .before .pre))
 
 add-result : tie.Need-add-result
 add-result c =
     omega (
       arith,
-      ap sealedBytes (c .before .before .before .parameters-of .ensures),
+      ap cpaCiphertextBytes (c .before .before .before .parameters-of .ensures),
       rules (c .before .before .before .before .args .set) (c .before .before .before .before .pre) .most-sealed,
     )
 
@@ -34,7 +34,7 @@ ciphertext-bytes-spec =
     tie.close
     (tie.spec
     (λ c κs. search needs)
-    sealed-bytes-requires
+    cpa-ciphertext-bytes-requires
     (λ c κs. search needs)
     add-result
     returns

@@ -1,7 +1,7 @@
 -- Set 0 has an input of its own.
 -- Assumes nothing.
 use borrow.Author.Tests.{eq-eqb, ne-eqb}
-use Rattle.sheet.specs.Sheet.{inputBytes}
+use Rattle.sheet_rows.specs.Input.{inputBytes}
 use Rattle.sheet.proofs.input.input_bytes.Statement.{statement}
 use Rattle.sheet.proofs.input.input_bytes.Tie as tie
 

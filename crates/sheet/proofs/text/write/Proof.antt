@@ -2,36 +2,50 @@
 -- Assumes nothing.
 use mathlib.Core.Path.{_≡_, sym, ap, _∙_}
 use Prim.Native.Nat.{ℕ}
-use native.Mathlib.Omega.{arith}
 use Rattle.calls.specs.Outcome.{outcome, accepted}
-use Rattle.sheet.specs.Sheet.{inputBytes, inputAnswer, rowsAnswer, answerText, rowsText}
+use Rattle.sheet_rows.specs.Input.{hasSheet, inputBytes, rowsAnswer}
+use Rattle.sheet.specs.Sheet.{inputAnswer, answerText, rowsText}
 use Rattle.sheet.proofs.SheetLaws.{input-is, checked-text, unchecked-text, printed-as}
 use borrow.Author.Needs.{needs}
 use Rattle.sheet.proofs.text.write.Statement.{statement}
 use Rattle.sheet.proofs.text.write.Tie as tie
 
+-- the start of the function
+abbrev start-of : tie.After-checked → tie.Start
+start-of c = c .before .before .before .before
+
 -- the input passes its checks
-passed : (c : tie.After-enum-told) → inputAnswer (c .before .before .before .before .before .before .args .input .now) accepted ≡ accepted
+passed : (c : tie.After-enum-told) → inputAnswer (start-of (c .before .before) .args .input .now) accepted ≡ accepted
 passed c = sym (c .before .before .checked .ensures) ∙ ap outcome (c .enum-told .given .1)
 
 set-byte-requires : tie.Need-set-byte-requires
-set-byte-requires c κs = input-is (c .before .before .before .before .before .before .args .input .now) accepted (passed c) .0
+set-byte-requires c κs = input-is (start-of (c .before .before) .args .input .now) accepted (passed c) .0
 
 write-checked-requires : tie.Need-write-checked-requires
 write-checked-requires c κs =
-    let pre = c .before .before .before .before .before .before .before .before .before .pre in
-    let is = input-is (c .before .before .before .before .before .before .before .before .before .args .input .now) accepted (passed (c .before .before .before)) in
-    (omega (arith, c .before .before .set-byte .ensures, is .1), is .2 ∙ sym (ap inputBytes (c .before .before .set-byte .ensures)), pre .0, pre .1)
+    let told = c .before .before .before in
+    let start = start-of (told .before .before) in
+    let byte = c .before .before .set-byte .ensures in
+    let is = input-is (start .args .input .now) accepted (passed told) in
+    (ap hasSheet byte ∙ is .1, is .2 ∙ sym (ap inputBytes byte), start .pre .0, start .pre .1)
 
 returns : tie.Need-returns
 returns c =
-    let input = c .before .before .before .before .before .before .before .before .before .before .before .before .before .before .args .input .now in
-    printed-as (ap (λ (set : ℕ). answerText (rowsAnswer set input) (rowsText set input)) (c .before .before .before .before .before .before .before .set-byte .ensures) ∙ checked-text input (passed (c .before .before .before .before .before .before .before .before))) (c .before .before .before .before .write-checked .ensures)
+    let read = c .before .before .before .before .before .before .before in
+    let told = read .before in
+    let input = start-of (told .before .before) .args .input .now in
+    printed-as
+    (ap (λ (set : ℕ). answerText (rowsAnswer set input) (rowsText set input)) (read .set-byte .ensures) ∙ checked-text input (passed told))
+    (c .before .before .before .before .write-checked .ensures)
 
 returns-2 : tie.Need-returns-2
 returns-2 c =
     let made = c .before .before .write-refused .ensures in
-    printed-as (unchecked-text (c .before .before .before .before .before .before .before .before .before .before .before .args .input .now) (sym (c .before .before .before .before .before .before .before .checked .ensures) ∙ ap outcome (c .before .before .before .before .before .checked2 .given .1))) (record { count-is = made .0; short = made .1 .1; text-is = made .1 .0 })
+    let asked = c .before .before .before .before .before .before .before in
+    printed-as
+    (unchecked-text (start-of asked .args .input .now)
+    (sym (asked .checked .ensures) ∙ ap outcome (c .before .before .before .before .before .checked2 .given .1)))
+    (record { count-is = made .0; short = made .1 .1; text-is = made .1 .0 })
 
 pub write-spec : {M : Type 1} → statement M
 write-spec =

@@ -5,7 +5,7 @@ use Prim.Native.Nat.{ℕ}
 use Rattle.sets.specs.Derived.{halfModulus}
 use Rattle.sets.proofs.Rules.{rules-of}
 use Rattle.sheet_text.specs.Text.{sheetText}
-use Rattle.sheet.specs.Sheet.{ceiling}
+use Rattle.sheet_text.specs.Ceiling.{ceiling}
 use Rattle.sheet.proofs.SheetLaws.{printed-as}
 use borrow.Author.Needs.{needs}
 use Rattle.sheet.proofs.text.write_accepted.Statement.{statement}
@@ -15,14 +15,18 @@ ceiling-requires : tie.Need-ceiling-requires
 ceiling-requires c κs = rules-of (c .before .before .before .before .args .set) (c .before .before .before .before .pre .0) _ (c .parameters-of .ensures)
 
 half-requires : tie.Need-half-requires
-half-requires c κs = rules-of (c .before .before .before .before .before .args .set) (c .before .before .before .before .before .pre .0) _ (c .before .parameters-of .ensures)
+half-requires c κs =
+    rules-of (c .before .before .before .before .before .args .set) (c .before .before .before .before .before .pre .0) _ (c .before .parameters-of .ensures)
 
 returns : tie.Need-returns
 returns c =
-    let args = c .before .before .before .before .before .before .before .before .before .before .args in
-    let e = c .before .before .before .before .before .before .parameters-of .ensures in
+    let at-parameters-of = c .before .before .before .before .before .before in
+    let args = at-parameters-of .before .before .before .before .args in
+    let e = at-parameters-of .parameters-of .ensures in
     let made = c .before .before .write-sheet .ensures in
-    printed-as (ap₂ (λ (most half : ℕ). sheetText (args .noise .now) (args .sent .now) (args .read .now) most half) (c .before .before .before .before .before .ceiling .ensures ∙ ap ceiling e) (c .before .before .before .before .half .ensures ∙ ap halfModulus e)) (record { count-is = made .0; short = made .1 .1; text-is = made .1 .0 })
+    printed-as (ap₂ (λ (most half : ℕ). sheetText (args .noise .now) (args .sent .now) (args .read .now) most half)
+    (c .before .before .before .before .before .ceiling .ensures ∙ ap ceiling e) (c .before .before .before .before .half .ensures ∙ ap halfModulus e))
+    (record { count-is = made .0; short = made .1 .1; text-is = made .1 .0 })
 
 pub write-accepted-spec : {M : Type 1} → statement M
 write-accepted-spec =

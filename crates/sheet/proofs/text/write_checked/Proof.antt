@@ -4,16 +4,23 @@ use mathlib.Core.Path.{ap, _∙_}
 use Prim.Native.Nat.{_≤_}
 use native.Mathlib.Omega.{arith}
 use lib.IntN.{pos}
+use lib.ListN.{replicate, length-replicate}
 use Rattle.sets.specs.declared.Parameters.{Parameters}
 use Rattle.sets.proofs.Rules.{rules-of}
-use Rattle.sheet.proofs.SheetLaws.{part-length}
+use Rattle.calls.proofs.Parts.{array-front, front-length}
+use Rattle.sheet_rows.proofs.Sets.{sheet-set}
 use borrow.Author.Needs.{needs}
 use Rattle.sheet.proofs.text.write_checked.Statement.{statement}
 use Rattle.sheet.proofs.text.write_checked.Tie as tie
 
+parameters-of-requires : tie.Need-parameters-of-requires
+parameters-of-requires c κs = let start = c .before .before .before in sheet-set (start .args .set) (start .pre .0)
+
 -- the number of rows
 fits : (c : tie.After-parameters-of) → c .parameters-of .result .d ≤ 256
-fits c = rules-of (c .before .before .before .before .args .set) (omega (arith, c .before .before .before .before .pre .0)) _ (c .parameters-of .ensures) .most-d
+fits c =
+    let start = c .before .before .before .before in
+    rules-of (start .args .set) (sheet-set (start .args .set) (start .pre .0)) _ (c .parameters-of .ensures) .most-d
 
 part-noise-end : tie.Need-part-noise-end
 part-noise-end c = omega (arith, fits c)
@@ -26,17 +33,20 @@ part-read-end c = omega (arith, fits (c .before .before))
 
 write-rows-requires : tie.Need-write-rows-requires
 write-rows-requires c κs =
-    let pre = c .before .before .before .before .before .before .before .before .before .pre in
-    let d = c .before .before .before .before .before .parameters-of .result .d in
-    let e = ap (λ (p : Parameters). p .d) (c .before .before .before .before .before .parameters-of .ensures) in
-    let inside = fits (c .before .before .before .before .before) in
-    (pre .0, pre .1, part-length (pos 0) 256 d inside ∙ e, part-length 0 256 d inside ∙ e, part-length 0 256 d inside ∙ e, pre .2, pre .3)
+    let known = c .before .before .before .before .before in
+    let pre = known .before .before .before .before .pre in
+    let d = known .parameters-of .result .d in
+    let e = ap (λ (p : Parameters). p .d) (known .parameters-of .ensures) in
+    let inside = fits known in
+    let noise = front-length (replicate 256 (pos 0)) d (rw length-replicate inside) ∙ e in
+    let bits = array-front 256 d inside ∙ e in
+    (pre .0, pre .1, noise, bits, bits, pre .2, pre .3)
 
 pub write-checked-spec : {M : Type 1} → statement M
 write-checked-spec =
     tie.close
     (tie.spec
-    (λ c κs. search needs)
+    parameters-of-requires
     (λ c. search needs)
     (λ c. search needs)
     part-noise-end

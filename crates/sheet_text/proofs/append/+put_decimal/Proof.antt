@@ -2,7 +2,7 @@
 -- Assumes nothing.
 use mathlib.Core.Path.{sym, ap, _∙_}
 use mathlib.Core.List.{[], _∷_, _++_}
-use Prim.Native.Nat.{ℕ, _+_, _/_, _%_, _≤_, _<_}
+use Prim.Native.Nat.{_<_, ℕ, _+_, _/_, _%_, _≤_}
 use native.Mathlib.Omega.{arith}
 use lib.ListN.{length, length-append}
 use Rattle.sheet_text.specs.Decimal.{decimal}
@@ -72,7 +72,8 @@ put-decimal-returns : (t : ℕ) → put-decimal-lts.Need-returns (
 put-decimal-returns t c =
     let start = c .before .before .before .before .before .before .before in
     let digit = c .before .before .before .before .digit in
-    written-as (ap (λ (b : ℕ). b ∷ []) (digit .ensures) ∙ sym (decimal-small (start .args .n) (omega (arith, c .before .before .before .before .before .if1 .taken))))
+    written-as (ap (λ (b : ℕ). b ∷ []) (digit .ensures)
+    ∙ sym (decimal-small (start .args .n) (omega (arith, c .before .before .before .before .before .if1 .taken))))
     (c .before .before .put-byte .ensures)
 
 put-decimal-put-decimal-requires : (t : ℕ) → put-decimal-lts.Need-put-decimal-requires (
@@ -122,7 +123,8 @@ put-decimal-same-length-2 : (t : ℕ) → put-decimal-lts.Need-same-length-2 (
   put-decimal-below t,
   put-decimal.Post,
 ) (put-decimal-at t) put-decimal.Post
-put-decimal-same-length-2 t c = c .before .before .put-byte2 .ensures .kept-length ∙ c .before .before .before .before .before .before .before .put-decimal .ensures .kept-length
+put-decimal-same-length-2 t c =
+    c .before .before .put-byte2 .ensures .kept-length ∙ c .before .before .before .before .before .before .before .put-decimal .ensures .kept-length
 
 put-decimal-returns-2 : (t : ℕ) → put-decimal-lts.Need-returns-2 (
   digit-reads.Asked,
@@ -133,8 +135,9 @@ put-decimal-returns-2 : (t : ℕ) → put-decimal-lts.Need-returns-2 (
   put-decimal.Post,
 ) (put-decimal-at t) put-decimal.Post
 put-decimal-returns-2 t c =
-    let start = c .before .before .before .before .before .before .before .before .before .before .before in
-    let large : 10 ≤ start .args .n = omega (arith, c .before .before .before .before .before .before .before .before .before .if1 .left) in
+    let chosen = c .before .before .before .before .before .before .before .before .before in
+    let start = chosen .before .before in
+    let large : 10 ≤ start .args .n = omega (arith, chosen .if1 .left) in
     let digit = c .before .before .before .before .digit2 in
     written-as (ap (λ (b : ℕ). decimal (start .args .n / 10) ++ (b ∷ [])) (digit .ensures) ∙ sym (decimal-large (start .args .n) large))
     (written-append (c .before .before .before .before .before .before .before .put-decimal .ensures) (c .before .before .put-byte2 .ensures))

@@ -11,7 +11,9 @@ put-decimal-requires : tie.Need-put-decimal-requires
 put-decimal-requires c κs = let start = c .before .before in room-front (start .args .at) (decimal (start .args .n)) (start .args .end ∷ []) (start .pre)
 
 put-byte-requires : tie.Need-put-byte-requires
-put-byte-requires c κs = let start = c .before .before .before .before .before .before in room-next (c .before .before .before .put-decimal .ensures) (start .args .end ∷ []) (start .pre)
+put-byte-requires c κs =
+    let start = c .before .before .before .before .before .before in
+    room-next (c .before .before .before .put-decimal .ensures) (start .args .end ∷ []) (start .pre)
 
 returns : tie.Need-returns
 returns c = written-append (c .before .before .before .before .before .before .put-decimal .ensures) (c .before .before .put-byte .ensures)

@@ -21,14 +21,18 @@ put-byte-requires c κs =
 put-decimal-requires : tie.Need-put-decimal-requires
 put-decimal-requires c κs =
     let start = c .before .before .before .before .before .before .before .before in
-    let text = signed-negative (start .args .z) (stored-sign (start .args .z) (start .fits .z) (c .before .before .before .before .before .before .if1 .taken)) in
-    rw (c .before .size .ensures ∙ ap natAbs (number-kept (start .args .z) (start .fits .z))) (room-next (c .before .before .before .before .put-byte .ensures) (decimal (natAbs (start .args .z))) (rw text at (start .pre .1)))
+    let text = signed-negative (start .args .z)
+    (stored-sign (start .args .z) (start .fits .z) (c .before .before .before .before .before .before .if1 .taken)) in
+    rw (c .before .size .ensures ∙ ap natAbs (number-kept (start .args .z) (start .fits .z)))
+    (room-next (c .before .before .before .before .put-byte .ensures) (decimal (natAbs (start .args .z))) (rw text at (start .pre .1)))
 
 returns : tie.Need-returns
 returns c =
-    let start = c .before .before .before .before .before .before .before .before .before .before .before in
-    let text = signed-negative (start .args .z) (stored-sign (start .args .z) (start .fits .z) (c .before .before .before .before .before .before .before .before .before .if1 .taken)) in
-    written-as (ap (λ (n : ℕ). (45 ∷ []) ++ decimal n) (c .before .before .before .before .size .ensures ∙ ap natAbs (number-kept (start .args .z) (start .fits .z))) ∙ sym text)
+    let at-then1 = c .before .before .before .before .before .before .before .before .before in
+    let start = at-then1 .before .before in
+    let text = signed-negative (start .args .z) (stored-sign (start .args .z) (start .fits .z) (at-then1 .if1 .taken)) in
+    written-as (ap (λ (n : ℕ). (45 ∷ []) ++ decimal n)
+    (c .before .before .before .before .size .ensures ∙ ap natAbs (number-kept (start .args .z) (start .fits .z))) ∙ sym text)
     (written-append (c .before .before .before .before .before .before .before .put-byte .ensures) (c .before .before .put-decimal .ensures))
 
 put-decimal-requires-2 : tie.Need-put-decimal-requires-2
@@ -41,7 +45,8 @@ returns-2 : tie.Need-returns-2
 returns-2 c =
     let start = c .before .before .before .before .before .before .before in
     let text = signed-natural (start .args .z) (stored-sign (start .args .z) (start .fits .z) (c .before .before .before .before .before .if1 .left)) in
-    written-as (ap decimal (c .before .before .before .before .size2 .ensures ∙ ap natAbs (number-kept (start .args .z) (start .fits .z))) ∙ sym text) (c .before .before .put-decimal2 .ensures)
+    written-as (ap decimal (c .before .before .before .before .size2 .ensures ∙ ap natAbs (number-kept (start .args .z) (start .fits .z))) ∙ sym text)
+    (c .before .before .put-decimal2 .ensures)
 
 pub put-sign-and-size-spec : {M : Type 1} → statement M
 put-sign-and-size-spec =

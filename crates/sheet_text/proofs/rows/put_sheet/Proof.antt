@@ -18,7 +18,8 @@ use Rattle.sheet_text.proofs.rows.put_sheet.Tie as tie
 put-bytes-requires : tie.Need-put-bytes-requires
 unfolding text.sheetText text.header
 put-bytes-requires c κs =
-    let start = c .before .before .before .before .before .before .before .before .before .before .before in
+    let at-order-places = c .before .before .before .before .before in
+    let start = at-order-places .before .before .before .before .before .before in
     let noise = start .args .noise .now in
     let body = rows noise (start .args .sent .now) (start .args .read .now) (shown noise) in
     let end = lastLine (start .args .ceiling) (start .args .half) in
@@ -27,37 +28,52 @@ put-bytes-requires c κs =
 put-rows-requires : tie.Need-put-rows-requires
 unfolding text.sheetText text.header
 put-rows-requires c κs =
-    let start = c .before .before .before .before .before .before .before .before .before .before .before .before .before .before .before .before .before in
+    let at-shown-count = c .before .before .before .before .before .before .before .before in
+    let start = at-shown-count .before .before .before .before .before .before .before .before .before in
     let noise = start .args .noise .now in
     let body = rows noise (start .args .sent .now) (start .args .read .now) (shown noise) in
     let end = lastLine (start .args .ceiling) (start .args .half) in
-    let ten = c .before .before .before .before .before .before .before .before .shown-count in
-    let placed = c .before .before .before .before .before .before .before .before .before .before .before .order-places in
-    let front : take (ten .result - 0) (placed .last .1 .0) ≡ shown noise = rw sub-zero (shown-front noise (placed .last .1 .0) (ten .result) (placed .ensures) (ten .ensures)) in
-    rw front (start .pre .0, shown-below noise, room-next (c .before .before .before .before .before .put-bytes .ensures) body (room-front 0 (header ++ body) end (omega (arith, start .pre .2))))
+    let ten = at-shown-count .shown-count in
+    let placed = at-shown-count .before .before .before .order-places in
+    let front : take (ten .result - 0) (placed .last .1 .0) ≡ shown noise = rw sub-zero
+    (shown-front noise (placed .last .1 .0) (ten .result) (placed .ensures) (ten .ensures)) in
+    rw front (
+      start .pre .0,
+      shown-below noise,
+      room-next (c .before .before .before .before .before .put-bytes .ensures) body
+          (room-front 0 (header ++ body) end (omega (arith, start .pre .2))),
+    )
 
 put-last-line-requires : tie.Need-put-last-line-requires
 unfolding text.sheetText text.header
 put-last-line-requires c κs =
-    let start = c .before .before .before .before .before .before .before .before .before .before .before .before .before .before .before .before .before .before .before .before .before in
+    let at-put-bytes = c .before .before .before .before .before .before .before .before .before in
+    let at-order-places = at-put-bytes .before .before .before .before .before .before in
+    let start = at-order-places .before .before .before .before .before .before in
     let noise = start .args .noise .now in
     let body = rows noise (start .args .sent .now) (start .args .read .now) (shown noise) in
     let end = lastLine (start .args .ceiling) (start .args .half) in
-    let ten = c .before .before .before .before .before .before .before .before .before .before .before .before .shown-count in
-    let placed = c .before .before .before .before .before .before .before .before .before .before .before .before .before .before .before .order-places in
-    let front : take (ten .result - 0) (placed .last .1 .0) ≡ shown noise = rw sub-zero (shown-front noise (placed .last .1 .0) (ten .result) (placed .ensures) (ten .ensures)) in
-    room-next (written-append {two = body} (c .before .before .before .before .before .before .before .before .before .put-bytes .ensures) (rw front at (c .before .before .before .put-rows .ensures))) end (omega (arith, start .pre .2))
+    let ten = at-put-bytes .before .before .before .shown-count in
+    let placed = at-order-places .order-places in
+    let front : take (ten .result - 0) (placed .last .1 .0) ≡ shown noise = rw sub-zero
+    (shown-front noise (placed .last .1 .0) (ten .result) (placed .ensures) (ten .ensures)) in
+    room-next (written-append {two = body} (at-put-bytes .put-bytes .ensures) (rw front at (c .before .before .before .put-rows .ensures))) end
+    (omega (arith, start .pre .2))
 
 returns : tie.Need-returns
 unfolding text.sheetText text.header
 returns c =
-    let start = c .before .before .before .before .before .before .before .before .before .before .before .before .before .before .before .before .before .before .before .before .before .before .before .before in
+    let at-order2 = c .before .before .before .before .before .before .before .before .before in
+    let at-order-places = at-order2 .before .before .before .before .before .before .before .before .before in
+    let start = at-order-places .before .before .before .before .before .before in
     let noise = start .args .noise .now in
     let body = rows noise (start .args .sent .now) (start .args .read .now) (shown noise) in
-    let ten = c .before .before .before .before .before .before .before .before .before .before .before .before .before .before .before .shown-count in
-    let placed = c .before .before .before .before .before .before .before .before .before .before .before .before .before .before .before .before .before .before .order-places in
-    let front : take (ten .result - 0) (placed .last .1 .0) ≡ shown noise = rw sub-zero (shown-front noise (placed .last .1 .0) (ten .result) (placed .ensures) (ten .ensures)) in
-    written-append (written-append {two = body} (c .before .before .before .before .before .before .before .before .before .before .before .before .put-bytes .ensures) (rw front at (c .before .before .before .before .before .before .put-rows .ensures))) (c .before .before .put-last-line .ensures)
+    let ten = at-order2 .before .before .before .before .before .before .shown-count in
+    let placed = at-order-places .order-places in
+    let front : take (ten .result - 0) (placed .last .1 .0) ≡ shown noise = rw sub-zero
+    (shown-front noise (placed .last .1 .0) (ten .result) (placed .ensures) (ten .ensures)) in
+    written-append (written-append {two = body} (at-order2 .before .before .before .put-bytes .ensures)
+    (rw front at (c .before .before .before .before .before .before .put-rows .ensures))) (c .before .before .put-last-line .ensures)
 
 pub put-sheet-spec : {M : Type 1} → statement M
 put-sheet-spec =

@@ -6,15 +6,28 @@ use borrow.Author.Needs.{needs}
 use Rattle.sponge.proofs.kmac.feed_right.Statement.{statement}
 use Rattle.sponge.proofs.kmac.feed_right.Tie as tie
 
+-- points of the function
+abbrev start-of-slice-known2 : tie.After-slice-known2 → tie.Start
+start-of-slice-known2 c = c .before .before .before .before .before .before .before .before
+
+abbrev start-of-slice-known3 : tie.After-slice-known3 → tie.Start
+start-of-slice-known3 c = c .before .before .before .before .before .before .before .before .before
+
+abbrev start-of : tie.After-slice-known4 → tie.Start
+start-of c = c .before .before .before .before .before .before .before .before .before
+
 returns : tie.Need-returns
-returns c = fed-as (right-is _ _ (digits-one (c .before .before .before .before .before .before .before .before .args .x) (c .before .before .before .before .before .before .if1 .taken))) (c .before .before .feed .ensures)
+returns c = fed-as (right-is _ _ (digits-one (start-of-slice-known2 c .args .x) (c .before .before .before .before .before .before .if1 .taken)))
+    (c .before .before .feed .ensures)
 
 returns-2 : tie.Need-returns-2
-returns-2 c = fed-as (right-is _ _ (digits-two (c .before .before .before .before .before .before .before .before .before .args .x) (c .before .before .before .before .before .before .before .if1 .left) (c .before .before .before .before .before .before .if2 .taken))) (c .before .before .feed2 .ensures)
+returns-2 c = fed-as (right-is _ _ (digits-two (start-of-slice-known3 c .args .x) (c .before .before .before .before .before .before .before .if1 .left)
+    (c .before .before .before .before .before .before .if2 .taken))) (c .before .before .feed2 .ensures)
 
 returns-3 : tie.Need-returns-3
 returns-3 c =
-    fed-as (right-is _ _ (digits-three (c .before .before .before .before .before .before .before .before .before .args .x) (c .before .before .before .before .before .before .if2 .left) (omega (arith, c .before .before .before .before .before .before .before .before .before .pre .1)))) (c .before .before .feed3 .ensures)
+    fed-as (right-is _ _ (digits-three (start-of c .args .x) (c .before .before .before .before .before .before .if2 .left)
+    (omega (arith, start-of c .pre .1)))) (c .before .before .feed3 .ensures)
 
 pub feed-right-spec : {M : Type 1} → statement M
 feed-right-spec =

@@ -9,16 +9,38 @@ use borrow.Author.Needs.{needs}
 use Rattle.sponge.proofs.kmac.kmac.Statement.{statement}
 use Rattle.sponge.proofs.kmac.kmac.Tie as tie
 
+-- points of the function
+abbrev at4-of : tie.After-slice-known2 → tie.After-at4
+at4-of c = c .before .before .before .before .before .before .before .before
+
+abbrev feed-of : tie.After-slice-known2 → tie.After-feed
+feed-of c = at4-of c .before .before .before
+
+abbrev at-of : tie.After-feed-padded-arg2 → tie.After-at
+at-of c = c .before .before .before .before .before .before .before .before
+
+abbrev start-of-feed-padded-arg2 : tie.After-feed-padded-arg2 → tie.Start
+start-of-feed-padded-arg2 c = at-of c .before .before .before .before .before .before
+
+abbrev feed-padded2-of : tie.After-slice-known2 → tie.After-feed-padded2
+feed-padded2-of c = feed-of c .before .before .before .before
+
+abbrev feed-padded-of : tie.After-slice-known2 → tie.After-feed-padded
+feed-padded-of c = feed-padded2-of c .before .before .before .before .before .before
+
+abbrev start-of : tie.After-slice-known2 → tie.Start
+start-of c = feed-padded-of c .before .before .before .before .before .before .before .before .before
+
 feed-padded-requires-2 : tie.Need-feed-padded-requires-2
 feed-padded-requires-2 c κs =
     let before = c .before .before .before .before .before .feed-padded .ensures in
-    (before .ready, padded-place _ _ (before .place), c .before .before .before .before .before .before .before .before .before .before .before .before .before .before .pre .0)
+    (before .ready, padded-place _ _ (before .place), start-of-feed-padded-arg2 c .pre .0)
 
 returns : tie.Need-returns
 returns c =
-    let args = c .before .before .before .before .before .before .before .before .before .before .before .before .before .before .before .before .before .before .before .before .before .before .before .before .before .before .before .before .before .before .args in
-    let front = fed-then (c .before .before .before .before .before .before .before .before .before .before .before .before .before .before .before .before .before .before .before .before .before .feed-padded .ensures) (c .before .before .before .before .before .before .before .before .before .before .before .before .before .before .before .feed-padded2 .ensures) in
-    let all = fed-then (fed-then front (c .before .before .before .before .before .before .before .before .before .before .before .feed .ensures)) (c .before .before .before .before .before .before .before .feed-right .ensures) in
+    let args = start-of c .args in
+    let front = fed-then (feed-padded-of c .feed-padded .ensures) (feed-padded2-of c .feed-padded2 .ensures) in
+    let all = fed-then (fed-then front (feed-of c .feed .ensures)) (c .before .before .before .before .before .before .before .feed-right .ensures) in
     c .before .before .before .finish .ensures _ (all .takes [] (absorbed-none _))
     ∙ kmac-parts (args .key .now) (args .input .now) (args .customization .now) (args .bits) (length (args .out .now))
 

@@ -19,7 +19,8 @@ loop-holds c = laid-none _ _ refl
 loop-again : tie.Need-loop-again Inv-loop μ-loop
 loop-again c =
     rw (c .before .copy-at .ensures)
-    (laid-more _ (c .before .before .before .before .before .before .before .loop .inv) (c .before .before .before .before .before .before .loop-test .taken) (c .before .before .before .before .lane-bytes .ensures))
+    (laid-more _ (c .before .before .before .before .before .before .before .loop .inv) (c .before .before .before .before .before .before .loop-test .taken)
+    (c .before .before .before .before .lane-bytes .ensures))
 
 returns : tie.Need-returns Inv-loop μ-loop
 returns c = laid-all (c .before .loop .inv) (c .loop-test .left)

@@ -6,11 +6,15 @@ use borrow.Author.Needs.{needs}
 use Rattle.sponge.proofs.lanes.mix.Statement.{statement}
 use Rattle.sponge.proofs.lanes.mix.Tie as tie
 
+-- points of the function
+abbrev mix-row-of : tie.After-mix-row5 → tie.After-mix-row
+mix-row-of c = c .before .before .before .before .before .before .before .before
+
 returns : tie.Need-returns
 unfolding mixed
 returns c =
     λ i.
-    c .before .before .before .before .before .before .before .before .mix-row .ensures i
+    mix-row-of c .mix-row .ensures i
     ∷ c .before .before .before .before .before .before .mix-row2 .ensures i
     ∷ c .before .before .before .before .mix-row3 .ensures i
     ∷ c .before .before .mix-row4 .ensures i

@@ -11,14 +11,21 @@ use borrow.Author.Needs.{needs}
 use Rattle.sponge.proofs.squeeze.finish.Statement.{statement}
 use Rattle.sponge.proofs.squeeze.finish.Tie as tie
 
+-- points of the function
+abbrev pad-at-of : tie.After-slice-known4 → tie.After-pad-at
+pad-at-of c = c .before .before .before .before .before .before .before .before
+
+abbrev start-of : tie.After-slice-known4 → tie.Start
+start-of c = pad-at-of c .before .before .before .before
+
 returns : tie.Need-returns
 unfolding sponge
 returns c m h =
-    let start = c .before .before .before .before .before .before .before .before .before .before .before .before in
+    let start = start-of c in
     let d = length (start .args .out .now) in
     c .before .before .squeeze .ensures
     ∙ ap (λ (s : List (List ℕ)). take d (squeezed s (d / 136 + 1)))
-    (ap keccakF (c .before .before .before .before .mix .ensures ∙ ap (mixed (start .args .a)) (c .before .before .before .before .before .before .before .before .pad-at .ensures))
+    (ap keccakF (c .before .before .before .before .mix .ensures ∙ ap (mixed (start .args .a)) (pad-at-of c .pad-at .ensures))
     ∙ closed (start .args .suffix) m (start .args .a) (start .args .block .now) (start .args .at) (start .pre .0) h)
 
 pub finish-spec : {M : Type 1} → statement M

@@ -15,14 +15,25 @@ Inv-loop out₀ a₀ i₀ out a i = Squeezing a₀ out₀ a out i
 abbrev μ-loop : tie.MeasureT-loop
 μ-loop out₀ a₀ i₀ out a i = length out₀ - i
 
+-- points of the function
+abbrev permute-of : tie.After-slice-known2 Inv-loop μ-loop → tie.After-permute Inv-loop μ-loop
+permute-of c = c .before .before .before .before .before .before .before .before
+
+abbrev in-loop-of : tie.After-slice-known2 Inv-loop μ-loop → tie.In-loop Inv-loop μ-loop
+in-loop-of c = permute-of c .before
+
+abbrev loop-of : tie.After-slice-known2 Inv-loop μ-loop → tie.At-loop Inv-loop μ-loop
+loop-of c = in-loop-of c .before
+
 loop-holds : tie.Need-loop-holds Inv-loop μ-loop
 loop-holds c = squeezing-none _ _
 
 loop-again : tie.Need-loop-again Inv-loop μ-loop
 loop-again c =
-    let q = c .before .before .before .before .before .before .before .before .before .before .loop .inv in
+    let q = loop-of c .loop .inv in
     rw (c .before .before .copy-at .ensures, sub-zero)
-    (squeezing-more q _ _ _ (omega (arith, q .kept, c .before .before .before .before .before .before .before .before .before .loop-test .taken)) (c .before .before .before .before .before .before .before .before .permute .ensures) (c .before .before .before .before .before .before .before .lane-block .ensures) (c .before .before .before .before .before .before .smaller .ensures))
+    (squeezing-more q _ _ _ (omega (arith, q .kept, in-loop-of c .loop-test .taken)) (permute-of c .permute .ensures)
+    (c .before .before .before .before .before .before .before .lane-block .ensures) (c .before .before .before .before .before .before .smaller .ensures))
 
 returns : tie.Need-returns Inv-loop μ-loop
 returns c = squeezing-all (c .before .loop .inv) (omega (arith, c .before .loop .inv .kept, c .loop-test .left))

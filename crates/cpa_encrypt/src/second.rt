@@ -1,0 +1,173 @@
+// The second part of a ciphertext: c2, the sum of the correlations of the multiplier polynomials with the b_i, and half the modulus times the
+// message (003, algorithm 2, lines 8 to 10).
+ghost use mathlib.Core.Path.{_≡_};
+ghost use Prim.Native.Nat.{_+_, _*_, _%_, _^_, _≤_, _<_};
+ghost use lib.ListN.{length, take, replicate};
+ghost use Rattle.maths.specs.Vector.{at, tabulate};
+ghost use Rattle.calls.specs.Region.{vector};
+ghost use Rattle.ntt.specs.Ready.{AllBelow};
+ghost use Rattle.sets.specs.Table.{setOf, IsSet};
+ghost use Rattle.sets.specs.Derived.{transformSize, rootPowers};
+ghost use Rattle.packing.specs.Digits.{Digit};
+ghost use Rattle.ntt_products.specs.Stored.{sent, totals};
+ghost use Rattle.scheme.specs.Encryption.{secondBytes};
+ghost use Rattle.cpa_encrypt.specs.Parts.{Multipliers, KeyResidues, messageAdded, secondSums, packedSecond};
+
+// Adds up in `total` the products of the multiplier polynomials, sent, and the stored b_i.
+fn sum_stored(
+    set: usize,
+    numbers: &[u32],
+    multipliers: &[u32],
+    powers: &[u32],
+    total: &mut [u32],
+    x: &mut [u32],
+)
+    requires { ⌜ IsSet set × KeyResidues (setOf set) (now numbers) × Multipliers (setOf set) (now multipliers) × (now powers ≡ rootPowers (setOf set) 1)
+        × (now total ≡ replicate (transformSize (setOf set) 1) 0) × (length (now x) ≡ transformSize (setOf set) 1) ⌝ }
+    ensures { λ _. ⌜ now (total .exit)
+        ≡ totals (setOf set .q) (transformSize (setOf set) 1) (setOf set .t) (λ i. sent (setOf set) 1 (vector (setOf set .k + 1) (now (multipliers .entry)) i))
+        (λ i. vector (setOf set .d1) (now (numbers .entry)) i) ⌝ }
+{
+    let p = sets::parameters_of(set);
+    let mut i: usize = 0;
+    while i < p.t {
+        crate::vectors::send_multipliers(set, 1, powers, multipliers, i, x);
+        let from = p.d1 * i;
+        let end = from + p.d1;
+        ntt_products::accumulate(total, x, &numbers[from..end], p.q);
+        i += 1;
+    }
+}
+
+// Adds `half` to each number whose bit is set.
+fn add_bits(numbers: &mut [u32], bits: &[u32], half: u32, q: u32)
+    requires { ⌜ (length (now bits) ≡ length (now numbers)) × AllBelow q (length (now numbers)) (now numbers) × Digit 1 (now bits) × (half < q)
+        × (q < 2 ^ 24) ⌝ }
+    ensures { λ _. ⌜ now (numbers .exit)
+        ≡ tabulate (length (now (numbers .entry))) (λ j. (at (now (numbers .entry)) j + half * at (now (bits .entry)) j) % q) ⌝ }
+{
+    let mut j: usize = 0;
+    while j < numbers.len() {
+        let shift = half * bits[j];
+        numbers[j] = residues::add(numbers[j], shift, q);
+        j += 1;
+    }
+}
+
+// Adds the message to the sums of correlations; `bits` is lent for the bits of the message.
+fn add_message(set: usize, message: &[u8], numbers: &mut [u32], bits: &mut [u32])
+    requires { ⌜ (1 ≤ set) × IsSet set × (length (now numbers) ≡ setOf set .d) × AllBelow (setOf set .q) (setOf set .d) (now numbers)
+        × (length (now bits) ≡ setOf set .d) ⌝ }
+    ensures { λ _. ⌜ now (numbers .exit) ≡ messageAdded (setOf set) (now (numbers .entry)) (now (message .entry)) ⌝ }
+{
+    let p = sets::parameters_of(set);
+    packing::bits_of(message, bits);
+    add_bits(numbers, bits, sets::derived::half_modulus(p), p.q);
+}
+
+// c2 before it is packed, in the first numbers of `total`; the table of powers and the vectors on the way are in lent slices.
+fn sums_with_buffers(
+    set: usize,
+    numbers: &[u32],
+    multipliers: &[u32],
+    message: &[u8],
+    powers: &mut [u32],
+    total: &mut [u32],
+    x: &mut [u32],
+)
+    requires { ⌜ (1 ≤ set) × IsSet set × KeyResidues (setOf set) (now numbers) × Multipliers (setOf set) (now multipliers)
+        × (length (now powers) ≡ transformSize (setOf set) 1) × (length (now total) ≡ transformSize (setOf set) 1)
+        × (length (now x) ≡ transformSize (setOf set) 1) ⌝ }
+    ensures { λ _. ⌜ take (setOf set .d) (now (total .exit))
+        ≡ secondSums (setOf set) (now (numbers .entry)) (now (multipliers .entry)) (now (message .entry)) ⌝ }
+{
+    let d = sets::parameters_of(set).d;
+    roots::load_powers(set, 1, powers);
+    calls::clear(total);
+    sum_stored(set, numbers, multipliers, powers, total, x);
+    ntt_products::recover_all_inverse(set, 1, powers, total);
+    add_message(set, message, &mut total[0..d], &mut x[0..d]);
+}
+
+// c2 before it is packed, with room on the way in lent slices.
+fn numbers_with_buffers(
+    set: usize,
+    numbers: &[u32],
+    multipliers: &[u32],
+    message: &[u8],
+    out: &mut [u32],
+    powers: &mut [u32],
+    total: &mut [u32],
+    x: &mut [u32],
+)
+    requires { ⌜ (1 ≤ set) × IsSet set × KeyResidues (setOf set) (now numbers) × Multipliers (setOf set) (now multipliers) × (length (now out) ≡ setOf set .d)
+        × (length (now powers) ≡ transformSize (setOf set) 1) × (length (now total) ≡ transformSize (setOf set) 1)
+        × (length (now x) ≡ transformSize (setOf set) 1) ⌝ }
+    ensures { λ _. ⌜ now (out .exit) ≡ secondSums (setOf set) (now (numbers .entry)) (now (multipliers .entry)) (now (message .entry)) ⌝ }
+{
+    sums_with_buffers(set, numbers, multipliers, message, powers, total, x);
+    calls::copy_out(out, total, 0);
+}
+
+// Writes c2 before it is packed.
+pub fn second_numbers(
+    set: usize,
+    numbers: &[u32],
+    multipliers: &[u32],
+    message: &[u8],
+    out: &mut [u32],
+)
+    requires { ⌜ (1 ≤ set) × IsSet set × KeyResidues (setOf set) (now numbers) × Multipliers (setOf set) (now multipliers)
+        × (length (now out) ≡ setOf set .d) ⌝ }
+    ensures { λ _. ⌜ now (out .exit) ≡ secondSums (setOf set) (now (numbers .entry)) (now (multipliers .entry)) (now (message .entry)) ⌝ }
+{
+    let size = ntt_products::size_of(set, 1);
+    let mut powers = [0u32; 3328];
+    let mut total = [0u32; 3328];
+    let mut x = [0u32; 3328];
+    numbers_with_buffers(
+        set,
+        numbers,
+        multipliers,
+        message,
+        out,
+        &mut powers[0..size],
+        &mut total[0..size],
+        &mut x[0..size],
+    );
+}
+
+// The second part, with c2 before it is packed in a lent slice.
+fn second_with_buffers(
+    set: usize,
+    numbers: &[u32],
+    multipliers: &[u32],
+    message: &[u8],
+    out: &mut [u8],
+    sums: &mut [u32],
+)
+    requires { ⌜ (1 ≤ set) × IsSet set × KeyResidues (setOf set) (now numbers) × Multipliers (setOf set) (now multipliers)
+        × (length (now out) ≡ secondBytes (setOf set)) × (length (now sums) ≡ setOf set .d) ⌝ }
+    ensures { λ _. ⌜ now (out .exit) ≡ packedSecond (setOf set) (now (numbers .entry)) (now (multipliers .entry)) (now (message .entry)) ⌝ }
+{
+    let p = sets::parameters_of(set);
+    second_numbers(set, numbers, multipliers, message, sums);
+    packing::pack_dropping(sums, p.width, p.cmp, out);
+}
+
+// Writes the second part of a ciphertext.
+pub fn encrypt_second(
+    set: usize,
+    numbers: &[u32],
+    multipliers: &[u32],
+    message: &[u8],
+    out: &mut [u8],
+)
+    requires { ⌜ (1 ≤ set) × IsSet set × KeyResidues (setOf set) (now numbers) × Multipliers (setOf set) (now multipliers)
+        × (length (now out) ≡ secondBytes (setOf set)) ⌝ }
+    ensures { λ _. ⌜ now (out .exit) ≡ packedSecond (setOf set) (now (numbers .entry)) (now (multipliers .entry)) (now (message .entry)) ⌝ }
+{
+    let d = sets::parameters_of(set).d;
+    let mut sums = [0u32; 256];
+    second_with_buffers(set, numbers, multipliers, message, out, &mut sums[0..d]);
+}

@@ -1,0 +1,127 @@
+// The middle product of two slices of residues through the transforms, an open call (01, Middle product; 003 algorithm 35).
+use calls::Answer;
+ghost use mathlib.Core.Path.{_≡_};
+ghost use Prim.Native.Nat.{_-_, _≤_, _<_};
+ghost use lib.ListN.{length};
+ghost use Rattle.maths.specs.Vector.{at, tabulate};
+ghost use Rattle.maths.specs.Product.{middleProduct};
+ghost use Rattle.calls.specs.Outcome.{outcome, leaves};
+ghost use Rattle.calls.specs.Checks.{allOf};
+ghost use Rattle.calls.specs.Region.{over};
+ghost use Rattle.sets.specs.Table.{setOf, IsSet};
+ghost use Rattle.sets.specs.Derived.{transformSize};
+ghost use Rattle.ntt.specs.Ready.{AllBelow};
+ghost use Rattle.ntt_products.specs.Stored.{sentInverse};
+ghost use Rattle.ntt_middle.specs.Calls.{transformedShape, numbersChecked, transformedAnswer, transformedLeft, middleWorkLeft};
+ghost use Rattle.ntt_middle.specs.Lengths.{Lengths};
+
+// Whether the lengths of a middle product of `a` and `b` numbers with `d` results fit each other, and the work slice has its size.
+fn lengths_fit(size: usize, a: usize, b: usize, d: usize, work: usize) -> bool
+    ensures { λ r. ⌜ r ≡ allOf (transformedShape size a b d work) ⌝ }
+{
+    if work != size {
+        return false;
+    }
+    middle::lengths_fit(a, b, d)
+}
+
+// Writes the numbers of `a`, last one first, to the front of `x`.
+fn load_reversed(x: &mut [u32], a: &[u32])
+    requires { ⌜ length (now a) ≤ length (now x) ⌝ }
+    ensures { λ _. ⌜ now (x .exit)
+        ≡ over (now (x .entry)) 0 (tabulate (length (now (a .entry))) (λ j. at (now (a .entry)) (length (now (a .entry)) - 1 - j))) ⌝ }
+{
+    let n = a.len();
+    let mut j: usize = 0;
+    while j < n {
+        x[j] = a[n - 1 - j];
+        j += 1;
+    }
+}
+
+// Stores `b` in the work slice, sent with the inverse of the root of a set's largest transform.
+fn store(set: usize, b: &[u32], powers: &mut [u32], work: &mut [u32])
+    requires { ⌜ IsSet set × (length (now powers) ≡ transformSize (setOf set) 3) × (length (now work) ≡ transformSize (setOf set) 3)
+        × (length (now b) ≤ transformSize (setOf set) 3) × AllBelow (setOf set .q) (length (now b)) (now b) ⌝ }
+    ensures { λ _. ⌜ now (work .exit) ≡ sentInverse (setOf set) 3 (now (b .entry)) ⌝ }
+{
+    ntt_products::load_inverse_powers(set, 3, powers);
+    calls::copy_in(work, 0, b);
+    ntt_products::send_first_inverse(set, 3, powers, work, b.len());
+}
+
+// The middle product as the correlation of the reversed `a` with the stored `b`; `powers` and `x` are lent for the way.
+fn correlate_stored(
+    set: usize,
+    a: &[u32],
+    b: &[u32],
+    out: &mut [u32],
+    work: &mut [u32],
+    powers: &mut [u32],
+    x: &mut [u32],
+)
+    requires { ⌜ IsSet set × Lengths (setOf set) (length (now a)) (length (now b)) (length (now out)) (length (now work))
+        × AllBelow (setOf set .q) (length (now a)) (now a) × AllBelow (setOf set .q) (length (now b)) (now b)
+        × (length (now powers) ≡ transformSize (setOf set) 3) × (length (now x) ≡ transformSize (setOf set) 3) ⌝ }
+    ensures { λ _. ⌜ now (out .exit) ≡ middleProduct (setOf set .q) (now (a .entry)) (now (b .entry)) (length (now (out .entry))) ⌝ }
+{
+    store(set, b, powers, work);
+    roots::load_powers(set, 3, powers);
+    load_reversed(x, a);
+    ntt_products::correlate(set, 3, powers, x, a.len(), work);
+    calls::copy_out(out, x, 0);
+}
+
+// The middle product of residues, with room for the table of powers and for the numbers on the way.
+fn fill(set: usize, a: &[u32], b: &[u32], out: &mut [u32], work: &mut [u32])
+    requires { ⌜ IsSet set × Lengths (setOf set) (length (now a)) (length (now b)) (length (now out)) (length (now work))
+        × AllBelow (setOf set .q) (length (now a)) (now a) × AllBelow (setOf set .q) (length (now b)) (now b) ⌝ }
+    ensures { λ _. ⌜ now (out .exit) ≡ middleProduct (setOf set .q) (now (a .entry)) (now (b .entry)) (length (now (out .entry))) ⌝ }
+{
+    let mut powers = [0u32; 3328];
+    let mut x = [0u32; 3328];
+    let size = work.len();
+    correlate_stored(set, a, b, out, work, &mut powers[0..size], &mut x[0..size]);
+}
+
+// Checks the numbers, and writes the middle product where all are residues.
+fn checked(set: usize, a: &[u32], b: &[u32], out: &mut [u32], work: &mut [u32]) -> Answer
+    requires { ⌜ IsSet set × Lengths (setOf set) (length (now a)) (length (now b)) (length (now out)) (length (now work)) ⌝ }
+    ensures answer { λ r. ⌜ outcome r ≡ numbersChecked set (now (a .entry)) (now (b .entry)) ⌝ }
+    ensures left { λ _. ⌜ now (out .exit)
+        ≡ leaves (numbersChecked set (now (a .entry)) (now (b .entry)))
+        (middleProduct (setOf set .q) (now (a .entry)) (now (b .entry)) (length (now (out .entry)))) (now (out .entry)) ⌝ }
+{
+    let p = sets::parameters_of(set);
+    let numbers = middle::checks::two_checked(a, b, p.q);
+    match numbers {
+        Answer::Refused(number, place) => Answer::Refused(number, place),
+        Answer::Done => {
+            fill(set, a, b, out, work);
+            Answer::Done
+        }
+    }
+}
+
+// The middle product of `a` and `b` modulo a set's q, with as many results as `out` has places.
+pub fn middle_product(set: usize, a: &[u32], b: &[u32], out: &mut [u32], work: &mut [u32]) -> Answer
+    ensures answer { λ r. ⌜ outcome r ≡ transformedAnswer set (now (a .entry)) (now (b .entry)) (length (now (out .entry))) (length (now (work .entry))) ⌝ }
+    ensures left { λ _. ⌜ now (out .exit) ≡ transformedLeft set (now (a .entry)) (now (b .entry)) (now (out .entry)) (length (now (work .entry))) ⌝ }
+    ensures cleared { λ _. ⌜ now (work .exit)
+        ≡ middleWorkLeft set (length (now (a .entry))) (length (now (b .entry))) (length (now (out .entry))) (now (work .entry)) ⌝ }
+{
+    if sets::LAST < set {
+        return Answer::Refused(1, 0);
+    }
+    let p = sets::parameters_of(set);
+    let size = p.d3;
+    if !lengths_fit(size, a.len(), b.len(), out.len(), work.len()) {
+        return Answer::Refused(6, 0);
+    }
+    if size < b.len() {
+        return Answer::Refused(7, 0);
+    }
+    let answer = checked(set, a, b, out, work);
+    calls::clear(work);
+    answer
+}

@@ -1,0 +1,18 @@
+-- Set 0 has a sheet, and so have the encryption sets.
+-- Assumes nothing.
+use borrow.Author.Needs.{needs}
+use borrow.Author.Tests.{eq-eqb, ne-eqb}
+use Rattle.sheet_rows.specs.Input.{hasSheet}
+use Rattle.sheet.proofs.input.has_sheet.Statement.{statement}
+use Rattle.sheet.proofs.input.has_sheet.Tie as tie
+
+returns : tie.Need-returns
+unfolding hasSheet
+returns c = rw (eq-eqb (c .before .args .set) 0 (c .if1 .taken))
+
+returns-2 : tie.Need-returns-2
+unfolding hasSheet
+returns-2 c = rw (ne-eqb (c .before .before .args .set) 0 (c .before .if1 .left)) (c .is-encryption .ensures)
+
+pub has-sheet-spec : {M : Type 1} → statement M
+has-sheet-spec = tie.close (tie.spec returns (λ c κs. search needs) returns-2)

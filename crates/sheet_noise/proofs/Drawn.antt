@@ -1,0 +1,197 @@
+-- The noise over residues is the noise over the whole numbers drawn.
+-- Assumes nothing.
+use mathlib.Core.Path.{_≡_, refl, sym, ap, ap₂, _∙_}
+use mathlib.Core.Bool.{Bool, true}
+use mathlib.Core.List.{List, [], _∷_, map}
+use Prim.Native.Nat.{ℕ, zero, suc, _+_, _*_, _^_, _≤_, _<_}
+use native.Mathlib.Nat.{le-of-suc-le-suc, not-suc-le-zero, zero-add}
+use native.Mathlib.Decide.{decLt}
+use native.Mathlib.Omega.{arith}
+use borrow.Author.Tests.{leb-true, lt-ltb, le-ltb}
+use lib.Dec.{leb}
+use lib.IntN.{ℤ, pos, _+ℤ_, _*ℤ_, natAbs}
+use lib.ListN.{length, getD, drop, length-map, List·getD-eq-default}
+use Rattle.maths.specs.Vector.{at}
+use Rattle.maths.specs.Integer.{residue, centre, correlationℤ}
+use Rattle.maths.proofs.Vector.{at-past}
+use Rattle.maths.proofs.Integer.{residue-lt, centre-residue, sumℤ-cong, natAbs-+ℤ}
+use Rattle.calls.specs.Checks.{allOf, below}
+use Rattle.calls.specs.Region.{vector}
+use Rattle.calls.proofs.Checks.{passing-is}
+use Rattle.calls.proofs.Region.{region-entry}
+use Rattle.sets.specs.declared.Parameters.{Parameters}
+use Rattle.sets.specs.Rules.{Rules, ByteRules}
+use Rattle.sets.specs.Table.{table, setOf, IsSet}
+use Rattle.sets.specs.Derived.{halfModulus, multiplierCount}
+use Rattle.sets.proofs.Rules.{rules, byteRules}
+use Rattle.sets.proofs.Tested.{passed, at-each}
+use Rattle.draws.specs.Calls.{inTurn}
+use Rattle.draws.proofs.Laws.{power-most, bits-most, turn-length, turn-at}
+use Rattle.draws.specs.Small.{multiplierBits}
+use Rattle.samplers.specs.Seeded.{errorCount, multipliersDrawn, secretState}
+use Rattle.samplers.proofs.Laws.{errorsDrawn-length, errorsDrawn-most, multipliersDrawn-length, multipliersDrawn-most}
+use Rattle.scheme.specs.Answers.{allBelow}
+use Rattle.scheme.specs.Encryption.{secretSeed, publicKey, errors, encryptedNumbers, keyNumbers}
+use Rattle.scheme.specs.Noise.{productNoise, droppedNoise, noise}
+use Rattle.scheme.proofs.Conditions.{set-conditions}
+use Rattle.scheme.proofs.Bytes.{keyNumbers-below, encryptedNumbers-below, cipherSecond-at}
+use Rattle.sheet_noise.specs.Centred.{Residues, centredTerm, centredCorrelation, centredPart, centredProduct, centredDropped, centredNoise, drawnNoise}
+use Rattle.sheet_noise.proofs.Sums.{room, product-most, dropped-most}
+
+-- numbers that are equal in turn
+pub turn-cong : (f g : ℕ → ℤ) (first n : ℕ) → ((j : ℕ) → j < first + n → f j ≡ g j) → inTurn f first n ≡ inTurn g first n
+unfolding inTurn
+turn-cong f g first zero e = refl
+turn-cong f g first (suc n) e = ap₂ _∷_ (e first (omega arith)) (turn-cong f g (suc first) n (λ j h. e j (omega arith)))
+
+-- an entry of the residues
+map-entry : (q : ℕ) (zs : List ℤ) (k : ℕ) → k < length zs → at (map (residue q) zs) k ≡ residue q (getD zs k (pos 0))
+map-entry q [] k h = absurd (omega arith)
+map-entry q (z ∷ zs) zero h = refl
+map-entry q (z ∷ zs) (suc k) h = map-entry q zs k (omega arith)
+
+-- residues of whole numbers are below q
+pub map-residues : (q : ℕ) (zs : List ℤ) → 0 < q → Residues q (map (residue q) zs)
+map-residues q zs some =
+    record {
+      each = λ k.
+          elim (decLt k (length zs)) [
+            | yes h ↦ rw (map-entry q zs k h) (residue-lt q (getD zs k (pos 0)) some)
+            | no h ↦ rw (at-past (map (residue q) zs) k (rw length-map (omega arith))) some
+          ];
+    }
+
+-- numbers that are all below q
+pub all-below : (q : ℕ) (xs : List ℕ) → ((k : ℕ) → at xs k < q) → allBelow q xs ≡ true
+unfolding allBelow
+all-below q xs each =
+    let passed : length xs ≡ _ = passing-is (below q) 0 xs 0 (length xs) (omega arith) (λ k h. lt-ltb (at xs k) q (each k)) (λ h. absurd (omega arith)) in
+    rw (← passed, le-ltb (length xs) (length xs) (omega arith))
+
+-- half the modulus of sets 1 to 12 is larger than every multiplier
+abbrev halfTests : Parameters → List Bool
+halfTests p = leb 512 (halfModulus p) ∷ []
+
+halves-passed : passed halfTests (drop 1 table) ≡ true
+unfolding passed allOf table halfModulus
+halves-passed = refl
+
+pub half-large : (set : ℕ) → 1 ≤ set → IsSet set → 512 ≤ halfModulus (setOf set)
+unfolding setOf table
+half-large zero some h = absurd (not-suc-le-zero some)
+half-large (suc i) some h = leb-true 512 (halfModulus (setOf (suc i))) (at-each halfTests (drop 1 table) halves-passed i (le-of-suc-le-suc h) .0)
+
+-- the whole numbers of two lists by their residues
+module _ (p : Parameters) (kept : Rules p) (bytes : ByteRules p) (r e : List ℤ) (rl : length r ≡ multiplierCount p) (el : length e ≡ errorCount p)
+    (rm : (k : ℕ) → k < multiplierCount p → natAbs (getD r k (pos 0)) ≤ halfModulus p)
+    (em : (k : ℕ) → k < errorCount p → natAbs (getD e k (pos 0)) ≤ halfModulus p) where
+  -- one number
+  centred-entry : (zs : List ℤ) (k : ℕ) → k < length zs → natAbs (getD zs k (pos 0)) ≤ halfModulus p
+      → centre (halfModulus p) (at (map (residue (p .q)) zs) k) ≡ getD zs k (pos 0)
+  centred-entry zs k h most = ap (centre (halfModulus p)) (map-entry (p .q) zs k h) ∙ centre-residue (halfModulus p) (p .q) (getD zs k (pos 0)) (kept .odd) most
+
+  -- one product
+  term-drawn : (i j l : ℕ) → i < p .t → j < p .d → l < p .k + 1
+      → centredTerm (halfModulus p) (map (residue (p .q)) r) ((p .k + 1) * i) (map (residue (p .q)) e) ((p .d + p .k) * i + j) l
+      ≡ getD (vector (p .k + 1) r i) l (pos 0) *ℤ getD (vector (p .d + p .k) e i) (j + l) (pos 0)
+  unfolding centredTerm
+  term-drawn i j l h m o =
+      let within = room p kept bytes i j h m in
+      let place : (p .d + p .k) * i + j + l ≡ (p .d + p .k) * i + (j + l) = omega arith in
+      ap₂ _*ℤ_
+      (centred-entry r ((p .k + 1) * i + l) (omega (arith, within .multipliers-in, rl)) (rm ((p .k + 1) * i + l) (omega (arith, within .multipliers-in)))
+      ∙ sym (region-entry r ((p .k + 1) * i) (p .k + 1) l (pos 0) o))
+      (centred-entry e ((p .d + p .k) * i + j + l) (omega (arith, within .errors-in, el)) (em ((p .d + p .k) * i + j + l) (omega (arith, within .errors-in)))
+      ∙ ap (λ (k : ℕ). getD e k (pos 0)) place ∙ sym (region-entry e ((p .d + p .k) * i) (p .d + p .k) (j + l) (pos 0) (omega arith)))
+
+  -- the products' part
+  pub product-drawn : (j : ℕ) → j < p .d → centredProduct p (map (residue (p .q)) r) (map (residue (p .q)) e) j ≡ productNoise p r e j
+  unfolding centredProduct centredPart centredCorrelation productNoise correlationℤ
+  product-drawn j m = sumℤ-cong (p .t) _ _ (λ i h. sumℤ-cong (p .k + 1) _ _ (λ l o. term-drawn i j l h m o))
+
+module _ (set : ℕ) (some : 1 ≤ set) (low : IsSet set) (secret sealing : List ℕ) where
+  -- the products' part of what is drawn
+  pub drawn-product : (j : ℕ) → j < setOf set .d
+      → centredProduct (setOf set) (map (residue (setOf set .q)) (multipliersDrawn (setOf set) sealing))
+      (map (residue (setOf set .q)) (errors (setOf set) secret)) j
+      ≡ productNoise (setOf set) (multipliersDrawn (setOf set) sealing) (errors (setOf set) secret) j
+  unfolding errors
+  drawn-product j h =
+      let kept = rules set low in
+      product-drawn (setOf set) kept (byteRules set some low) (multipliersDrawn (setOf set) sealing) (errors (setOf set) secret)
+      (multipliersDrawn-length (setOf set) sealing) (errorsDrawn-length (setOf set) (secretState (setOf set) secret))
+      (λ k l. omega (
+        arith,
+        multipliersDrawn-most (setOf set) sealing k l,
+        power-most (multiplierBits (setOf set) k) (bits-most (setOf set) kept k),
+        half-large set some low,
+      ))
+      (λ k l. omega (arith, errorsDrawn-most (setOf set) (secretState (setOf set) secret) k l, half-large set some low))
+      j h
+
+  -- its size
+  pub drawn-most : (j : ℕ) → j < setOf set .d → natAbs (productNoise (setOf set) (multipliersDrawn (setOf set) sealing) (errors (setOf set) secret) j) ≤ 2 ^ 60
+  drawn-most j h =
+      let kept = rules set low in
+      let positive : 0 < setOf set .q = omega (arith, kept .prime .above) in
+      rw (sym (drawn-product j h))
+      (product-most (setOf set) kept (byteRules set some low) (map (residue (setOf set .q)) (multipliersDrawn (setOf set) sealing))
+      (map (residue (setOf set .q)) (errors (setOf set) secret)) (map-residues (setOf set .q) (multipliersDrawn (setOf set) sealing) positive)
+      (map-residues (setOf set .q) (errors (setOf set) secret) positive) j)
+
+  -- the noise over the residues drawn
+  pub noise-drawn : (ms es before : List ℕ) → ms ≡ map (residue (setOf set .q)) (multipliersDrawn (setOf set) sealing)
+      → es ≡ map (residue (setOf set .q)) (errors (setOf set) secret)
+      → inTurn (λ j. centredNoise (setOf set) ms es (at before j) j) 0 (setOf set .d) ≡ inTurn (drawnNoise (setOf set) secret sealing before) 0 (setOf set .d)
+  unfolding centredNoise drawnNoise
+  noise-drawn ms es before m e =
+      turn-cong _ _ 0 (setOf set .d)
+      (λ j h. ap (λ (z : ℤ). z +ℤ centredDropped (setOf set) (at before j))
+      (ap₂ (λ (xs ys : List ℕ). centredProduct (setOf set) xs ys j) m e ∙ drawn-product j (rw zero-add at h)))
+
+module _ (set : ℕ) (some : 1 ≤ set) (low : IsSet set) (seed message sealing : List ℕ) where
+  -- place j from c2 before packing
+  noise-place : (j : ℕ) → j < setOf set .d
+      → drawnNoise (setOf set) (secretSeed (setOf set) seed) sealing (encryptedNumbers (setOf set) (publicKey (setOf set) seed) message sealing) j
+      ≡ noise (setOf set) seed message sealing j
+  unfolding drawnNoise centredDropped noise droppedNoise
+  noise-place j h = rw (cipherSecond-at (set-conditions set some low) (publicKey (setOf set) seed) message sealing j h)
+
+  -- the noise of every place
+  pub noise-places : (secret before public : List ℕ) → secret ≡ secretSeed (setOf set) seed → public ≡ publicKey (setOf set) seed
+      → before ≡ encryptedNumbers (setOf set) public message sealing
+      → inTurn (drawnNoise (setOf set) secret sealing before) 0 (setOf set .d) ≡ inTurn (noise (setOf set) seed message sealing) 0 (setOf set .d)
+  noise-places secret before public s k b =
+      let made : before ≡ encryptedNumbers (setOf set) (publicKey (setOf set) seed) message sealing =
+      b ∙ ap (λ (pk : List ℕ). encryptedNumbers (setOf set) pk message sealing) k in
+      ap₂ (λ (xs ys : List ℕ). inTurn (drawnNoise (setOf set) xs sealing ys) 0 (setOf set .d)) s made
+      ∙ turn-cong _ _ 0 (setOf set .d) (λ j h. noise-place j (rw zero-add at h))
+
+  -- the size of the noise
+  noise-most : (j : ℕ) → j < setOf set .d → natAbs (noise (setOf set) seed message sealing j) < 2 ^ 62
+  unfolding drawnNoise
+  noise-most j h =
+      let before = at (encryptedNumbers (setOf set) (publicKey (setOf set) seed) message sealing) j in
+      let product = productNoise (setOf set) (multipliersDrawn (setOf set) sealing) (errors (setOf set) (secretSeed (setOf set) seed)) j in
+      rw (sym (noise-place j h)) (parts-most product before (drawn-most set some low (secretSeed (setOf set) seed) sealing j h))
+    where
+      parts-most : (z : ℤ) (before : ℕ) → natAbs z ≤ 2 ^ 60 → natAbs (z +ℤ centredDropped (setOf set) before) < 2 ^ 62
+      parts-most z before m =
+          omega (arith, natAbs-+ℤ z (centredDropped (setOf set) before), dropped-most (setOf set) (rules set low) (byteRules set some low) before)
+
+  -- so every place of the list is small
+  pub noise-small : (out : List ℤ) → out ≡ inTurn (noise (setOf set) seed message sealing) 0 (setOf set .d) → (j : ℕ) → natAbs (getD out j (pos 0)) < 2 ^ 62
+  noise-small out made j =
+      elim (decLt j (setOf set .d)) [
+        | yes h ↦ rw (made, turn-at (noise (setOf set) seed message sealing) 0 (setOf set .d) j (pos 0) h, zero-add) (noise-most j h)
+        | no h ↦ let past : length out ≤ j = rw (made, turn-length) (omega arith) in rw (List·getD-eq-default out (pos 0) past) (omega arith)
+      ]
+
+  -- the numbers of the public key are residues
+  pub key-below : (public : List ℕ) → public ≡ publicKey (setOf set) seed → allBelow (setOf set .q) (keyNumbers (setOf set) public) ≡ true
+  key-below public e =
+      rw e (all-below (setOf set .q) (keyNumbers (setOf set) (publicKey (setOf set) seed)) (keyNumbers-below (set-conditions set some low) seed))
+
+  -- and so is c2 before packing
+  pub before-residues : (public before : List ℕ) → before ≡ encryptedNumbers (setOf set) public message sealing → Residues (setOf set .q) before
+  before-residues public before e = rw e (record { each = encryptedNumbers-below (set-conditions set some low) public message sealing })

@@ -1,0 +1,4 @@
+pub mod Sets
+pub mod RowLaws
+pub mod SeededLaws
+pub mod InputClaim
