@@ -61,9 +61,11 @@ fn transforms(number: usize) {
         let start = residues(s.q, size);
         let mut x = start.clone();
         let mut y = start.clone();
-        compare(&format!("set {number} transform of {size}"), 50, || proved::send(number, i, &powers, black_box(&mut x)), || y = forward.forward(black_box(&y)));
+        let name = format!("set {number} transform of {size}");
+        compare(&name, 50, || proved::send(number, i, &powers, black_box(&mut x)), || y = forward.forward(black_box(&y)));
         assert_eq!(x, y);
-        compare(&format!("set {number} inverse of {size}"), 50, || proved::recover(number, i, &inverse, black_box(&mut x)), || y = backward.scaled(black_box(&y)));
+        let name = format!("set {number} inverse of {size}");
+        compare(&name, 50, || proved::recover(number, i, &inverse, black_box(&mut x)), || y = backward.scaled(black_box(&y)));
         assert_eq!(x, y);
     }
 }

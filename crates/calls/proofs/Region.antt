@@ -21,19 +21,19 @@ module _ {A : Type 0} where
   same-entries (x ∷ xs) ys e h = ext-getD x (x ∷ xs) ys e (h x)
 
   -- the entry of a region
-  pub region-entry : (xs : List A) (at n i : ℕ) (d : A) → i < n → getD (region xs at n) i d ≡ getD xs (at + i) d
+  pub region-entry : (xs : List A) (start n i : ℕ) (d : A) → i < n → getD (region xs start n) i d ≡ getD xs (start + i) d
   unfolding region
-  region-entry xs at n i d h = rw (getD-take, getD-drop)
+  region-entry xs start n i d h = rw (getD-take, getD-drop)
 
   -- a region that fits has its length
-  pub region-length : (xs : List A) (at n : ℕ) → at + n ≤ length xs → length (region xs at n) ≡ n
+  pub region-length : (xs : List A) (start n : ℕ) → start + n ≤ length xs → length (region xs start n) ≡ n
   unfolding region
-  region-length xs at n fits = simp (length-take, length-drop) (omega arith)
+  region-length xs start n fits = simp (length-take, length-drop) (omega arith)
 
   -- the part of a slice from a place to an end is a region
-  pub region-part : (xs : List A) (at n end : ℕ) → end ≡ at + n → take (end - at) (drop at xs) ≡ region xs at n
+  pub region-part : (xs : List A) (start n end : ℕ) → end ≡ start + n → take (end - start) (drop start xs) ≡ region xs start n
   unfolding region
-  region-part xs at n end e = let m : end - at ≡ n = omega arith in rw m
+  region-part xs start n end e = let m : end - start ≡ n = omega arith in rw m
 
   -- the region of all places is the list
   pub region-whole : (xs : List A) (n : ℕ) → length xs ≡ n → region xs 0 n ≡ xs
@@ -41,111 +41,112 @@ module _ {A : Type 0} where
   region-whole xs n e = take-all n xs (omega arith)
 
   -- a region of a region
-  pub region-region : (xs : List A) (at n from m : ℕ) → at + n ≤ length xs → from + m ≤ n → region (region xs at n) from m ≡ region xs (at + from) m
-  region-region xs at n from m fits inside =
-      let l = region-length xs at n fits in
-      let lm : length (region (region xs at n) from m) ≡ m = region-length (region xs at n) from m (omega arith) in
-      same-entries _ _ (lm ∙ sym (region-length xs (at + from) m (omega arith)))
+  pub region-region : (xs : List A) (start n from m : ℕ) → start + n ≤ length xs → from + m ≤ n → region (region xs start n) from m ≡ region xs (start + from) m
+  region-region xs start n from m fits inside =
+      let l = region-length xs start n fits in
+      let lm : length (region (region xs start n) from m) ≡ m = region-length (region xs start n) from m (omega arith) in
+      same-entries _ _ (lm ∙ sym (region-length xs (start + from) m (omega arith)))
       (λ d i h. let k : i < m = omega arith in
-      region-entry (region xs at n) from m i d k ∙ region-entry xs at n (from + i) d (omega arith)
-      ∙ ap (λ (j : ℕ). getD xs j d) (omega arith) ∙ sym (region-entry xs (at + from) m i d k))
+      region-entry (region xs start n) from m i d k ∙ region-entry xs start n (from + i) d (omega arith)
+      ∙ ap (λ (j : ℕ). getD xs j d) (omega arith) ∙ sym (region-entry xs (start + from) m i d k))
 
   -- a region written with its own entries changes nothing
-  pub over-region : (xs : List A) (at n : ℕ) → at + n ≤ length xs → over xs at (region xs at n) ≡ xs
+  pub over-region : (xs : List A) (start n : ℕ) → start + n ≤ length xs → over xs start (region xs start n) ≡ xs
   unfolding over region
-  over-region xs at n fits = rw (region-length xs at n fits, ← take-add at n xs, take-append-drop)
+  over-region xs start n fits = rw (region-length xs start n fits, ← take-add start n xs, take-append-drop)
 
   -- the entries before a place, ys, and the entries from the end of ys on
-  pub over-parts : (xs : List A) (at : ℕ) (ys : List A) (end : ℕ) → end ≡ at + length ys → take at xs ++ ys ++ drop end xs ≡ over xs at ys
+  pub over-parts : (xs : List A) (start : ℕ) (ys : List A) (end : ℕ) → end ≡ start + length ys → take start xs ++ ys ++ drop end xs ≡ over xs start ys
   unfolding over
-  over-parts xs at ys end e = rw e
+  over-parts xs start ys end e = rw e
 
   -- a part of a slice that was lent for writing and came back as ys is a write
-  pub over-lent : (xs : List A) (at : ℕ) (ys : List A) (end : ℕ) → end ≡ at + length ys → take at xs ++ (ys ++ drop (end - at) (drop at xs)) ≡ over xs at ys
-  over-lent xs at ys end e = rw (drop-drop, ← append-assoc) (over-parts xs at ys (at + (end - at)) (omega arith))
+  pub over-lent : (xs : List A) (start : ℕ) (ys : List A) (end : ℕ) → end ≡ start + length ys
+      → take start xs ++ (ys ++ drop (end - start) (drop start xs)) ≡ over xs start ys
+  over-lent xs start ys end e = rw (drop-drop, ← append-assoc) (over-parts xs start ys (start + (end - start)) (omega arith))
 
   -- all places written over
   pub over-whole : (xs ys : List A) → length ys ≡ length xs → over xs 0 ys ≡ ys
   unfolding over
   over-whole xs ys e = rw (zero-add, e, drop-length) (append-nil ys)
 
-  module _ (xs : List A) (at : ℕ) (ys : List A) (fits : at + length ys ≤ length xs) where
+  module _ (xs : List A) (start : ℕ) (ys : List A) (fits : start + length ys ≤ length xs) where
     -- where the entries written end
-    head-length : length (take at xs ++ ys) ≡ at + length ys
+    head-length : length (take start xs ++ ys) ≡ start + length ys
     head-length = simp (length-append, length-take) (omega arith)
 
     -- a write keeps the length
-    pub over-length : length (over xs at ys) ≡ length xs
+    pub over-length : length (over xs start ys) ≡ length xs
     unfolding over
     over-length = simp (length-append, length-take, length-drop) (omega arith)
 
     -- the entries before the place stay
-    pub over-take : take at (over xs at ys) ≡ take at xs
+    pub over-take : take start (over xs start ys) ≡ take start xs
     unfolding over
-    over-take = rw append-assoc (take-at (take at xs) (ys ++ drop (at + length ys) xs) at (length-take-le at xs (omega arith)))
+    over-take = rw append-assoc (take-at (take start xs) (ys ++ drop (start + length ys) xs) start (length-take-le start xs (omega arith)))
 
     -- the entries after those written stay
-    pub over-drop : drop (at + length ys) (over xs at ys) ≡ drop (at + length ys) xs
+    pub over-drop : drop (start + length ys) (over xs start ys) ≡ drop (start + length ys) xs
     unfolding over
-    over-drop = drop-at (take at xs ++ ys) (drop (at + length ys) xs) (at + length ys) head-length
+    over-drop = drop-at (take start xs ++ ys) (drop (start + length ys) xs) (start + length ys) head-length
 
     -- the entries up to the last one written
-    pub over-front : take (at + length ys) (over xs at ys) ≡ take at xs ++ ys
+    pub over-front : take (start + length ys) (over xs start ys) ≡ take start xs ++ ys
     unfolding over
-    over-front = take-at (take at xs ++ ys) (drop (at + length ys) xs) (at + length ys) head-length
+    over-front = take-at (take start xs ++ ys) (drop (start + length ys) xs) (start + length ys) head-length
 
     -- an entry that was written
-    pub over-inside : (i : ℕ) (d : A) → i < length ys → getD (over xs at ys) (at + i) d ≡ getD ys i d
+    pub over-inside : (i : ℕ) (d : A) → i < length ys → getD (over xs start ys) (start + i) d ≡ getD ys i d
     unfolding over
     over-inside i d h =
-        List·getD-append (take at xs ++ ys) (drop (at + length ys) xs) d (at + i) (omega (arith, head-length))
-        ∙ (rw (length-take-le at xs (omega arith)) at (getD-append-add (take at xs) ys i d))
+        List·getD-append (take start xs ++ ys) (drop (start + length ys) xs) d (start + i) (omega (arith, head-length))
+        ∙ (rw (length-take-le start xs (omega arith)) at (getD-append-add (take start xs) ys i d))
 
     -- an entry at a place that was not written
-    pub over-outside : (k : ℕ) (d : A) → ((j : ℕ) → j < length ys → k ≡ at + j → ⊥) → getD (over xs at ys) k d ≡ getD xs k d
+    pub over-outside : (k : ℕ) (d : A) → ((j : ℕ) → j < length ys → k ≡ start + j → ⊥) → getD (over xs start ys) k d ≡ getD xs k d
     unfolding over
-    over-outside k d h = go (decLt k at) (decLt k (at + length ys))
+    over-outside k d h = go (decLt k start) (decLt k (start + length ys))
       where
         rest : List A
-        rest = drop (at + length ys) xs
+        rest = drop (start + length ys) xs
 
-        after : (m : ℕ) → k ≡ at + length ys + m → getD (take at xs ++ ys ++ rest) k d ≡ getD xs k d
-        after m e = rw (e, ← head-length) (getD-append-add (take at xs ++ ys) (drop (length (take at xs ++ ys)) xs) m d ∙ getD-drop _ xs m d)
+        after : (m : ℕ) → k ≡ start + length ys + m → getD (take start xs ++ ys ++ rest) k d ≡ getD xs k d
+        after m e = rw (e, ← head-length) (getD-append-add (take start xs ++ ys) (drop (length (take start xs ++ ys)) xs) m d ∙ getD-drop _ xs m d)
 
-        go : Dec (k < at) → Dec (k < at + length ys) → getD (take at xs ++ ys ++ rest) k d ≡ getD xs k d
+        go : Dec (k < start) → Dec (k < start + length ys) → getD (take start xs ++ ys ++ rest) k d ≡ getD xs k d
         go (yes l) r =
-            List·getD-append (take at xs ++ ys) rest d k (omega (arith, head-length))
-            ∙ List·getD-append (take at xs) ys d k (simp length-take (omega arith)) ∙ getD-take at xs k d l
-        go (no l) (yes r) = absurd (h (k - at) (omega arith) (omega arith))
-        go (no l) (no r) = after (k - (at + length ys)) (omega arith)
+            List·getD-append (take start xs ++ ys) rest d k (omega (arith, head-length))
+            ∙ List·getD-append (take start xs) ys d k (simp length-take (omega arith)) ∙ getD-take start xs k d l
+        go (no l) (yes r) = absurd (h (k - start) (omega arith) (omega arith))
+        go (no l) (no r) = after (k - (start + length ys)) (omega arith)
 
     -- a region of the entries written
-    pub region-over-inside : (from n : ℕ) → from + n ≤ length ys → region (over xs at ys) (at + from) n ≡ region ys from n
+    pub region-over-inside : (from n : ℕ) → from + n ≤ length ys → region (over xs start ys) (start + from) n ≡ region ys from n
     region-over-inside from n inside =
-        let l : length (region (over xs at ys) (at + from) n) ≡ n = region-length (over xs at ys) (at + from) n (omega (arith, over-length)) in
+        let l : length (region (over xs start ys) (start + from) n) ≡ n = region-length (over xs start ys) (start + from) n (omega (arith, over-length)) in
         same-entries _ _ (l ∙ sym (region-length ys from n inside))
         (λ e i h. let k : i < n = omega arith in
-        region-entry (over xs at ys) (at + from) n i e k ∙ ap (λ (j : ℕ). getD (over xs at ys) j e) (omega arith)
+        region-entry (over xs start ys) (start + from) n i e k ∙ ap (λ (j : ℕ). getD (over xs start ys) j e) (omega arith)
         ∙ over-inside (from + i) e (omega arith) ∙ sym (region-entry ys from n i e k))
 
     -- the region of all entries written
-    pub region-over-same : (n : ℕ) → length ys ≡ n → region (over xs at ys) at n ≡ ys
+    pub region-over-same : (n : ℕ) → length ys ≡ n → region (over xs start ys) start n ≡ ys
     region-over-same n e =
-        ap (λ (k : ℕ). region (over xs at ys) k n) (sym (add-zero at)) ∙ region-over-inside 0 n (omega arith) ∙ region-whole ys n e
+        ap (λ (k : ℕ). region (over xs start ys) k n) (sym (add-zero start)) ∙ region-over-inside 0 n (omega arith) ∙ region-whole ys n e
 
     -- of two writes at the same place the later one stays
-    pub over-over : (zs : List A) → length ys ≡ length zs → over (over xs at ys) at zs ≡ over xs at zs
+    pub over-over : (zs : List A) → length ys ≡ length zs → over (over xs start ys) start zs ≡ over xs start zs
     over-over zs e =
-        sym (over-parts (over xs at ys) at zs (at + length ys) (omega arith))
-        ∙ rw (over-take, over-drop) (over-parts xs at zs (at + length ys) (omega arith))
+        sym (over-parts (over xs start ys) start zs (start + length ys) (omega arith))
+        ∙ rw (over-take, over-drop) (over-parts xs start zs (start + length ys) (omega arith))
 
     -- two writes side by side are one
-    pub over-append : (zs : List A) → over (over xs at ys) (at + length ys) zs ≡ over xs at (ys ++ zs)
+    pub over-append : (zs : List A) → over (over xs start ys) (start + length ys) zs ≡ over xs start (ys ++ zs)
     over-append zs =
-        let end = at + length ys + length zs in
-        sym (over-parts (over xs at ys) (at + length ys) zs end refl)
-        ∙ rw (over-front, ← drop-drop (length zs) (at + length ys) (over xs at ys), over-drop, drop-drop, append-assoc (take at xs) ys zs)
-        (over-parts xs at (ys ++ zs) end (simp length-append (omega arith)))
+        let end = start + length ys + length zs in
+        sym (over-parts (over xs start ys) (start + length ys) zs end refl)
+        ∙ rw (over-front, ← drop-drop (length zs) (start + length ys) (over xs start ys), over-drop, drop-drop, append-assoc (take start xs) ys zs)
+        (over-parts xs start (ys ++ zs) end (simp length-append (omega arith)))
 
   -- the length of vectors of n entries each, one after the other
   pub joined-length : (n t : ℕ) (f : ℕ → List A) → ((i : ℕ) → i < t → length (f i) ≡ n) → length (joined t f) ≡ n * t

@@ -6,13 +6,13 @@ use mathlib.Core.List.{List, [], _∷_, _++_}
 use Prim.Native.Nat.{ℕ, zero, suc, _+_, _*_}
 use lib.ListN.{length, take, drop}
 
--- the n entries of xs from place at on
+-- the n entries of xs from place start on
 unfoldable pub region : {A : Type 0} → List A → ℕ → ℕ → List A
-region xs at n = take n (drop at xs)
+region xs start n = take n (drop start xs)
 
--- xs with ys in place from at on
+-- xs with ys in place from start on
 unfoldable pub over : {A : Type 0} → List A → ℕ → List A → List A
-over xs at ys = take at xs ++ ys ++ drop (at + length ys) xs
+over xs start ys = take start xs ++ ys ++ drop (start + length ys) xs
 
 -- vector i of a family of vectors of n entries each, which stand one after the other in one list
 abbrev pub vector : {A : Type 0} → ℕ → List A → ℕ → List A

@@ -19,7 +19,7 @@ use Rattle.samplers.specs.Seeded.{secretDrawn}
 use Rattle.scheme.specs.Encryption.{secretSeed, publicKey, keyNumbers, ciphertext, decryptedMessage}
 use Rattle.scheme.specs.Exchange.{expandedSeed, innerSeed, rejectBytes, exchangePublicKey, exchangeSecretKey, sealingSeed, checkBytes, sharedHash}
 use Rattle.scheme.specs.Exchange.{encapsulated, sharedKey, same, decapsulatedMessage, hashedSecret, decapsulated}
-use Rattle.scheme.specs.Answers.{isTaken, allBelow, keyDraws, encryptDraws, secretDraw, decapsulateDraws}
+use Rattle.scheme.specs.Answers.{isTaken, onlyResidues, keyDraws, encryptDraws, secretDraw, decapsulateDraws}
 use Rattle.cca_bytes.proofs.Laws.{both-over}
 use Rattle.cca_steps.specs.Steps.{innerDraw, keyOfMessage}
 
@@ -111,11 +111,11 @@ shared-again p pk part message reject ct again old secret shared before agrees w
 
 module _ (p : Parameters) (sk : List ℕ) where
   -- a number of the public key inside it is too large
-  pub numbers-refuse : allBelow (p .q) (keyNumbers p (drop 32 sk)) ≡ false → decapsulateDraws p sk ≡ refused 3 0
+  pub numbers-refuse : onlyResidues (p .q) (keyNumbers p (drop 32 sk)) ≡ false → decapsulateDraws p sk ≡ refused 3 0
   unfolding decapsulateDraws
   numbers-refuse e = rw e
 
-  module _ (all : allBelow (p .q) (keyNumbers p (drop 32 sk)) ≡ true) where
+  module _ (all : onlyResidues (p .q) (keyNumbers p (drop 32 sk)) ≡ true) where
     -- none is, and the draw of the secret refuses
     pub draw-refuses : {number place : ℕ} → innerDraw p sk ≡ refused number place → decapsulateDraws p sk ≡ refused number place
     unfolding decapsulateDraws secretDraw

@@ -3,31 +3,20 @@
 use mathlib.Core.Path.{_≡_, _∙_}
 use mathlib.Core.Bool.{true, not}
 use mathlib.Core.List.{List}
-use Prim.Native.Nat.{ℕ, _<_}
-use native.Mathlib.Omega.{arith}
-use borrow.Author.Tests.{lt-ltb, le-ltb, not-false}
+use Prim.Native.Nat.{ℕ}
+use borrow.Author.Tests.{not-false}
 use lib.ListN.{length, take, drop}
 use lib.Seq.{take-at, drop-at}
-use Rattle.maths.specs.Vector.{at}
 use Rattle.calls.specs.Outcome.{accepted}
-use Rattle.calls.specs.Checks.{passing, below}
 use Rattle.calls.proofs.Outcome.{refuse-accepted}
-use Rattle.calls.proofs.Checks.{passing-all}
 use Rattle.sets.specs.declared.Parameters.{Parameters}
 use Rattle.samplers.specs.Seeded.{secretDrawn, publicDrawn}
 use Rattle.scheme.specs.Encryption.{secretSeed, publicSeed, publicKey, keyNumbers, ciphertext, cipherFirst}
 use Rattle.scheme.specs.Exchange.{innerSeed, exchangePublicKey, exchangeSecretKey}
 use Rattle.scheme.specs.Conditions.{Conditions}
-use Rattle.scheme.specs.Answers.{isTaken, allTaken, allBelow, keyDraws, encryptDraws, secretDraw, decryptDraws, decapsulateDraws}
-use Rattle.scheme.proofs.Answers.{reading-passed}
+use Rattle.scheme.specs.Answers.{isTaken, allTaken, onlyResidues, keyDraws, encryptDraws, secretDraw, decryptDraws, decapsulateDraws}
+use Rattle.scheme.proofs.Answers.{all-below, reading-passed}
 use Rattle.scheme.proofs.Bytes.{keySeed-back, keyNumbers-below, cipherFirst-below}
-
--- numbers that are below q at every place pass the test
-pub all-below : (q : ℕ) (xs : List ℕ) → ((j : ℕ) → at xs j < q) → allBelow q xs ≡ true
-unfolding allBelow
-all-below q xs each =
-    let all : passing (below q) 0 xs ≡ length xs = passing-all (below q) 0 xs 0 .1 (λ k h. lt-ltb (at xs k) q (each k)) in
-    rw (le-ltb (passing (below q) 0 xs) (length xs) (omega arith))
 
 -- the draws of an accepted key took all their numbers
 pub key-drawn : (p : Parameters) (seed : List ℕ) → keyDraws p seed ≡ accepted
@@ -63,7 +52,7 @@ module _ {p : Parameters} (c : Conditions p) (seed : List ℕ) (drawn : keyDraws
   encapsulation-drawn = sealing-drawn c (innerSeed p seed) drawn
 
   -- the numbers of that key are below q
-  public-below : allBelow (p .q) (keyNumbers p (exchangePublicKey p seed)) ≡ true
+  public-below : onlyResidues (p .q) (keyNumbers p (exchangePublicKey p seed)) ≡ true
   unfolding exchangePublicKey
   public-below = all-below (p .q) (keyNumbers p (publicKey p (innerSeed p seed))) (keyNumbers-below c (innerSeed p seed))
 
@@ -77,7 +66,7 @@ module _ {p : Parameters} (c : Conditions p) (seed : List ℕ) (drawn : keyDraws
     unfolding exchangeSecretKey
     public-part = drop-at seed _ 32 size
 
-    -- decapsulating with that secret key, which reads and seals again
+    -- decapsulating with that secret key, which reads and encrypts again
     pub decapsulation-drawn : decapsulateDraws p (exchangeSecretKey p seed) ≡ accepted
     unfolding decapsulateDraws
     decapsulation-drawn = rw (seed-part, public-part, public-below, key-drawn p (innerSeed p seed) drawn .0) encapsulation-drawn

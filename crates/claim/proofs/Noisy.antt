@@ -18,7 +18,7 @@ use Rattle.maths.proofs.Sum.{sum-cong, sum-pad}
 use Rattle.maths.proofs.Cancelling.{exchanged}
 use Rattle.maths.proofs.Congruence.{mod-refl, mod-eq, mod-trans, mod-add, mod-remainder, mod-add-multiple}
 use Rattle.sets.specs.declared.Parameters.{Parameters}
-use Rattle.sets.specs.Derived.{halfModulus}
+use Rattle.sets.specs.Derived.{halfModulus, multiplierCount}
 use Rattle.sets.specs.Rules.{Rules}
 use Rattle.calls.specs.Region.{vector}
 use Rattle.numbers.specs.Scheme.{residues, key, sumOfProducts, firstPart, sumOfMiddles, secondPart, opened}
@@ -51,7 +51,7 @@ module _ (p : Parameters) (kept : Rules p) (a s : List ℕ) (e : List ℤ) (a-le
       (product (vector (p .n) a i) s (p .n - 1 + l) + residue (p .q) (getD (vector (p .d + p .k) e i) l (pos 0)))
   key-place i l h inside = rw (key-vector p a s e i h, keyPart-at p a s e a-length i l h inside) (mod-remainder (p .q) _)
 
-  module _ (r : List ℤ) (m : List ℕ) (r-length : length r ≡ p .t * (p .k + 1)) (j : ℕ) (h : j < p .d) where
+  module _ (r : List ℤ) (m : List ℕ) (r-length : length r ≡ multiplierCount p) (j : ℕ) (h : j < p .d) where
     -- vector i of the multipliers' residues
     multiplier : ℕ → List ℕ
     multiplier i = vector (p .k + 1) (residues (p .q) r) i

@@ -10,7 +10,7 @@ use native.Mathlib.Omega.{arith}
 use borrow.Author.Tests.{eq-eqb, eqb-true, lt-ltb, not-false}
 use lib.IntN.{ℤ, pos}
 use lib.ListN.{length, getD}
-use Rattle.maths.specs.Vector.{at}
+use Rattle.maths.specs.Vector.{at, Below}
 use Rattle.maths.specs.Integer.{residue}
 use Rattle.maths.specs.BitClaim.{BitClaim}
 use Rattle.maths.proofs.Vector.{equal-by-place}
@@ -21,9 +21,8 @@ use Rattle.calls.proofs.Outcome.{refuse-accepted}
 use Rattle.calls.proofs.Checks.{refuseFirst-passes, refuseFirst-accepted, passing-all, allOf-each, each-allOf}
 use Rattle.sets.specs.declared.Parameters.{Parameters}
 use Rattle.sets.specs.Table.{setOf, IsSet, noSet}
-use Rattle.sets.specs.Derived.{halfModulus}
+use Rattle.sets.specs.Derived.{halfModulus, multiplierCount, errorCount}
 use Rattle.sets.proofs.Rules.{rules, byteRules}
-use Rattle.middle.specs.Operand.{Below}
 use Rattle.middle.proofs.Laws.{two-slices, accepted-one, accepted-two}
 use Rattle.numbers.specs.Scheme.{opened, reading}
 use Rattle.numbers.specs.Calls.{isError, isMultiplier, keyShape, sealingShape, keyAnswer, sealingAnswer, readingAnswer}
@@ -49,9 +48,9 @@ pub record Inputs (p : Parameters) (a s : List ℕ) (e r : List ℤ) (m : List �
   pub public : Below (p .q) a
   pub secret-length : length s ≡ p .n + p .d + p .k - 1
   pub secret : Below (p .q) s
-  pub errors-length : length e ≡ p .t * (p .d + p .k)
+  pub errors-length : length e ≡ errorCount p
   pub errors : (i : ℕ) → i < length e → isError (p .eta) i (getD e i (pos 0)) ≡ true
-  pub multipliers-length : length r ≡ p .t * (p .k + 1)
+  pub multipliers-length : length r ≡ multiplierCount p
   pub multipliers : (i : ℕ) → i < length r → isMultiplier p i (getD r i (pos 0)) ≡ true
   pub message-length : length m ≡ p .d
   pub message : Below 2 m
@@ -62,10 +61,10 @@ module _ (set : ℕ) (within : IsSet set) (a s : List ℕ) (e r : List ℤ) (m :
   some = omega (arith, rules set within .prime .above)
 
   -- key and sealing accept such numbers
-  pub key-takes : Inputs (setOf set) a s e r m → keyAnswer set a s e (setOf set .t * (setOf set .d + setOf set .k)) ≡ accepted
+  pub key-takes : Inputs (setOf set) a s e r m → keyAnswer set a s e (errorCount (setOf set)) ≡ accepted
   key-takes given =
       let p = setOf set in
-      let bound = p .t * (p .d + p .k) in
+      let bound = errorCount p in
       key-numbers set p a s e bound refl (omega arith)
       (each-allOf _ (
         eq-eqb _ _ (given .public-length),
@@ -107,7 +106,7 @@ module _ (set : ℕ) (within : IsSet set) (a s : List ℕ) (e r : List ℤ) (m :
 
   -- what an accepted sealing tells of the multipliers and the message
   sealing-told : (b : List ℕ) (c1 c2 : ℕ) → sealingAnswer set a b r m c1 c2 ≡ accepted
-      → (length r ≡ setOf set .t * (setOf set .k + 1)) × (length m ≡ setOf set .d) × Below 2 m
+      → (length r ≡ multiplierCount (setOf set)) × (length m ≡ setOf set .d) × Below 2 m
   unfolding sealingAnswer
   sealing-told b c1 c2 taken =
       let one = refuse-accepted (noSet set) 1 0 _ taken in
@@ -118,7 +117,7 @@ module _ (set : ℕ) (within : IsSet set) (a s : List ℕ) (e r : List ℤ) (m :
       let each = allOf-each _ (not-false _ (two .0)) in
       (eqb-true _ _ (each .1 .1 .0), eqb-true _ _ (each .1 .1 .1 .0), five .0)
 
-  module _ (keyed : keyAnswer set a s e (setOf set .t * (setOf set .d + setOf set .k)) ≡ accepted)
+  module _ (keyed : keyAnswer set a s e (errorCount (setOf set)) ≡ accepted)
       (sealed : sealingAnswer set a (keyOf set a s e) r m (setOf set .n + setOf set .k) (setOf set .d) ≡ accepted)
     where
       -- reading accepts what sealing gives

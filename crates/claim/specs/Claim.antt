@@ -11,7 +11,7 @@ use Rattle.maths.specs.Vector.{at}
 use Rattle.maths.specs.BitClaim.{BitClaim}
 use Rattle.calls.specs.Outcome.{Outcome, accepted, andThen}
 use Rattle.sets.specs.Table.{setOf}
-use Rattle.sets.specs.Derived.{halfModulus, isEncryption, isExchange, publicKeyBytes, secretKeyBytes, ciphertextBytes}
+use Rattle.sets.specs.Derived.{halfModulus, errorCount, isEncryption, isExchange, publicKeyBytes, secretKeyBytes, ciphertextBytes}
 use Rattle.packing.specs.Digits.{Digit}
 use Rattle.numbers.specs.Scheme as numbers
 use Rattle.numbers.specs.Calls.{keyAnswer, sealingAnswer, readingAnswer}
@@ -49,7 +49,7 @@ secondOf set a s e r m = numbers.secondPart (setOf set) (keyOf set a s e) r m
 
 -- what the call of key answers, lent slices of the set's lengths
 abbrev pub keyAnswered : ℕ → Handed → Outcome
-keyAnswered set (onNumbers a s e r m) = keyAnswer set a s e (setOf set .t * (setOf set .d + setOf set .k))
+keyAnswered set (onNumbers a s e r m) = keyAnswer set a s e (errorCount (setOf set))
 keyAnswered set (encryption seed message sealing) =
     encryptionKeyAnswer set seed (publicKeyBytes (setOf set)) (secretKeyBytes set) (workLength (setOf set))
 keyAnswered set (exchange seed message) =
@@ -88,7 +88,7 @@ noiseAt set (onNumbers a s e r m) j = numbersNoise (setOf set) e r j
 noiseAt set (encryption seed message sealing) j = noise (setOf set) seed message sealing j
 noiseAt set (exchange seed message) j = noise (setOf set) (innerSeed (setOf set) seed) message (sealingSeed message) j
 
--- the bit sent at place j, and the bit that the reading step gives, before decapsulation seals it again
+-- the bit sent at place j, and the bit that the reading step gives, before decapsulation encrypts it again
 abbrev pub bitSent : ℕ → Handed → ℕ → ℕ
 bitSent set (onNumbers a s e r m) j = at m j
 bitSent set (encryption seed message sealing) j = messageBit (setOf set) message j

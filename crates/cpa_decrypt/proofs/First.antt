@@ -10,14 +10,13 @@ use borrow.Author.Tests.{lt-ltb, le-ltb, lt-leb, le-leb}
 use lib.Dec.{leb}
 use lib.ListN.{length, take, drop}
 use lib.Seq.{getD-take}
-use Rattle.maths.specs.Vector.{at}
+use Rattle.maths.specs.Vector.{at, AllBelow}
 use Rattle.maths.specs.Product.{correlation}
 use Rattle.maths.proofs.Vector.{tabulate-at, tabulate-cong}
 use Rattle.maths.proofs.Transform.{recover-length}
 use Rattle.calls.specs.Checks.{passing, below}
 use Rattle.calls.specs.Region.{over}
 use Rattle.calls.proofs.Region.{over-length, over-lent}
-use Rattle.ntt.specs.Ready.{AllBelow}
 use Rattle.sets.specs.declared.Parameters.{Parameters}
 use Rattle.sets.specs.Table.{setOf, IsSet}
 use Rattle.sets.specs.Derived.{transformSize}
@@ -29,14 +28,14 @@ use Rattle.ntt_products.specs.Stored.{recoveredInverse, recovered, correlations
 use Rattle.ntt_products.specs.Placed.{Placed, Correlated}
 use Rattle.ntt_products.proofs.Laws.{recoveredInverse-take, recovered-take, recovered-placed}
 use Rattle.scheme.specs.Encryption.{firstBytes, cipherFirst}
-use Rattle.scheme.specs.Answers.{allBelow}
+use Rattle.scheme.specs.Answers.{onlyResidues}
 use Rattle.cpa_decrypt.specs.Decrypted.{firstCorrelations}
 use Rattle.maths.proofs.Product.{correlation-front}
 use Rattle.calls.proofs.Parts.{front-first}
 
 -- the test that the code makes of the first number that fails
-pub below-test : (q n i : ℕ) (xs : List ℕ) → length xs ≡ n → i ≡ passing (below q) 0 xs → leb n i ≡ allBelow q xs
-unfolding allBelow
+pub below-test : (q n i : ℕ) (xs : List ℕ) → length xs ≡ n → i ≡ passing (below q) 0 xs → leb n i ≡ onlyResidues q xs
+unfolding onlyResidues
 below-test q n i xs size e =
     rw (← e, size)
     (elim (decLt i n) [

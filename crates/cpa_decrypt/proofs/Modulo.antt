@@ -7,12 +7,11 @@ use native.Mathlib.Nat.{mod-lt}
 use native.Mathlib.Decide.{decLt}
 use native.Mathlib.Omega.{arith}
 use lib.ListN.{length, length-map}
-use Rattle.maths.specs.Vector.{at}
+use Rattle.maths.specs.Vector.{at, AllBelow}
 use Rattle.maths.specs.Congruence.{Mod}
 use Rattle.maths.proofs.Vector.{at-past, map-at}
 use Rattle.maths.proofs.Congruence.{mod-eq, mod-remainder}
 use Rattle.maths.proofs.Transform.{recover-mod}
-use Rattle.ntt.specs.Ready.{AllBelow}
 use Rattle.sets.specs.Table.{setOf, IsSet}
 use Rattle.sets.specs.Derived.{transformSize}
 use Rattle.ntt_products.specs.Stored.{rowCount, rootInverse, sizeInverse, recovered}

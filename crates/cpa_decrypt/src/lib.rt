@@ -6,7 +6,7 @@ ghost use mathlib.Core.Path.{_≡_};
 ghost use Prim.Native.Nat.{_≤_, _<_};
 ghost use lib.ListN.{length, take};
 ghost use Rattle.calls.specs.Outcome.{outcome, leaves};
-ghost use Rattle.ntt.specs.Ready.{AllBelow};
+ghost use Rattle.maths.specs.Vector.{AllBelow};
 ghost use Rattle.sets.specs.Table.{setOf, IsSet};
 ghost use Rattle.sets.specs.Rules.{Rules, ByteRules};
 ghost use Rattle.sets.specs.Derived.{transformSize, cpaCiphertextBytes};
@@ -14,7 +14,7 @@ ghost use Rattle.packing.specs.Digits.{unpack};
 ghost use Rattle.ntt_products.specs.Stored.{recovered};
 ghost use Rattle.ntt_products.specs.Placed.{Placed};
 ghost use Rattle.scheme.specs.Encryption.{firstBytes, cipherFirst, decryptedMessage};
-ghost use Rattle.scheme.specs.Answers.{workLength, allBelow, secretDraw};
+ghost use Rattle.scheme.specs.Answers.{workLength, onlyResidues, secretDraw};
 ghost use Rattle.cpa_decrypt.specs.Decrypted.{reduced, firstCorrelations, differenceBit, differenceBits, decryptedBitsFrom, decryptedMessageFrom};
 
 // Takes each number modulo q.
@@ -183,7 +183,7 @@ pub fn decrypt(
 // Whether each number of ĉ1 is below q; the work slice is lent for the numbers.
 pub fn first_below(set: usize, ciphertext: &[u8], work: &mut [u32]) -> bool
     requires { ⌜ (1 ≤ set) × IsSet set × (length (now ciphertext) ≡ cpaCiphertextBytes (setOf set)) × (length (now work) ≡ workLength (setOf set)) ⌝ }
-    ensures { λ r. ⌜ r ≡ allBelow (setOf set .q) (cipherFirst (setOf set) (now (ciphertext .entry))) ⌝ }
+    ensures { λ r. ⌜ r ≡ onlyResidues (setOf set .q) (cipherFirst (setOf set) (now (ciphertext .entry))) ⌝ }
 {
     let p = sets::parameters_of(set);
     let end = first_bytes(set);

@@ -7,7 +7,7 @@ use native.Mathlib.Nat.{sub-zero, mod-lt}
 use native.Mathlib.Omega.{arith}
 use lib.ListN.{length, take, drop, replicate}
 use lib.Seq.{getD-take, take-at}
-use Rattle.maths.specs.Vector.{at, tabulate}
+use Rattle.maths.specs.Vector.{at, tabulate, AllBelow}
 use Rattle.maths.specs.Sum.{sum}
 use Rattle.maths.specs.Product.{correlation}
 use Rattle.maths.proofs.Vector.{tabulate-length, tabulate-at, tabulate-cong}
@@ -15,7 +15,6 @@ use Rattle.maths.proofs.Sum.{sum-cong}
 use Rattle.maths.proofs.Congruence.{mod-refl, mod-add, mod-remainder}
 use Rattle.calls.specs.Region.{region, vector}
 use Rattle.calls.proofs.Region.{region-entry, region-length, region-part}
-use Rattle.ntt.specs.Ready.{AllBelow}
 use Rattle.sets.specs.declared.Parameters.{Parameters}
 use Rattle.sets.specs.Table.{setOf, IsSet}
 use Rattle.sets.specs.Derived.{halfModulus, transformSize}

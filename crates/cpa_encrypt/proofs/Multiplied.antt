@@ -7,11 +7,10 @@ use native.Mathlib.Nat.{mul-le-mul-left}
 use native.Mathlib.Decide.{decLt}
 use native.Mathlib.Omega.{arith}
 use lib.ListN.{length, take, drop}
-use Rattle.maths.specs.Vector.{at}
+use Rattle.maths.specs.Vector.{at, AllBelow}
 use Rattle.maths.proofs.Vector.{at-past}
 use Rattle.calls.specs.Region.{region, over, vector}
 use Rattle.calls.proofs.Region.{region-entry, region-length, region-part}
-use Rattle.ntt.specs.Ready.{AllBelow}
 use Rattle.sets.specs.declared.Parameters.{Parameters}
 use Rattle.sets.specs.Table.{setOf, IsSet}
 use Rattle.sets.specs.Derived.{transformSize, multiplierCount}

@@ -25,13 +25,13 @@ use Rattle.calls.proofs.Region.{region-part}
 use Rattle.calls.proofs.Parts.{rest-whole}
 use Rattle.sets.specs.declared.Parameters.{Parameters}
 use Rattle.sets.specs.Table.{setOf, IsSet}
-use Rattle.sets.specs.Derived.{multiplierCount, packedBytes, publicKeyBytes, cpaCiphertextBytes}
+use Rattle.sets.specs.Derived.{multiplierCount, packedBytes, publicKeyBytes, cpaCiphertextBytes, errorCount}
 use Rattle.sets.proofs.Rules.{rules}
 use Rattle.packing.specs.Digits.{unpack}
 use Rattle.packing.proofs.Laws.{unpack-length}
-use Rattle.samplers.specs.Seeded.{errorCount, publicDrawn, multipliersDrawn}
+use Rattle.samplers.specs.Seeded.{publicDrawn, multipliersDrawn}
 use Rattle.samplers.proofs.Laws.{multipliersDrawn-length}
-use Rattle.scheme.specs.Answers.{workLength, allTaken, allBelow, encryptDraws}
+use Rattle.scheme.specs.Answers.{workLength, allTaken, onlyResidues, encryptDraws}
 use Rattle.scheme.specs.Encryption.{residueVector, keySeed, keyNumbers, keyPolynomial, multiplierVector, encryptedNumbers, firstBytes, secondBytes, ciphertext}
 use Rattle.cpa_encrypt.specs.Parts.{Multipliers, KeyResidues, Loaded, packedFirst, secondSums, packedSecond}
 
@@ -127,8 +127,8 @@ module _ (set : ℕ) (low : IsSet set) (p : Parameters) (e : p ≡ setOf set) wh
   key-numbers key len l = rw (l, e) (ap (unpack (setOf set .width) (setOf set .d1 * setOf set .t)) (rest-whole key 32))
 
   -- numbers that are all below q
-  pub key-residues : (key : List ℕ) → allBelow (setOf set .q) (keyNumbers (setOf set) key) ≡ true → KeyResidues (setOf set) (keyNumbers (setOf set) key)
-  unfolding allBelow keyNumbers
+  pub key-residues : (key : List ℕ) → onlyResidues (setOf set .q) (keyNumbers (setOf set) key) ≡ true → KeyResidues (setOf set) (keyNumbers (setOf set) key)
+  unfolding onlyResidues keyNumbers
   key-residues key all =
       let xs = unpack (setOf set .width) (setOf set .d1 * setOf set .t) (drop 32 key) in
       let size : length xs ≡ setOf set .d1 * setOf set .t = unpack-length (setOf set .width) (setOf set .d1 * setOf set .t) (drop 32 key) in
@@ -191,17 +191,18 @@ module _ (set : ℕ) (low : IsSet set) (p : Parameters) (e : p ≡ setOf set) wh
         ∙ held .multipliers ∙ sym (ap (λ (r : Parameters). map (residue (r .q)) (multipliersDrawn r seed)) e)
 
   -- what the check of the numbers tells
-  pub key-answer : (key : List ℕ) (len : ℕ) (r : Bool) → len ≡ p .d1 * p .t → r ≡ allBelow (p .q) (unpack (p .width) len (take (length key - 32) (drop 32 key)))
-      → allBelow (setOf set .q) (keyNumbers (setOf set) key) ≡ r
-  key-answer key len r l ans = sym (ans ∙ ap₂ allBelow (ap (λ (s : Parameters). s .q) e) (key-numbers key len l))
+  pub key-answer : (key : List ℕ) (len : ℕ) (r : Bool) → len ≡ p .d1 * p .t
+      → r ≡ onlyResidues (p .q) (unpack (p .width) len (take (length key - 32) (drop 32 key)))
+      → onlyResidues (setOf set .q) (keyNumbers (setOf set) key) ≡ r
+  key-answer key len r l ans = sym (ans ∙ ap₂ onlyResidues (ap (λ (s : Parameters). s .q) e) (key-numbers key len l))
 
   -- a number of q or more refuses
-  pub numbers-refused : (key : List ℕ) → allBelow (setOf set .q) (keyNumbers (setOf set) key) ≡ false → encryptDraws (setOf set) key ≡ refused 3 0
+  pub numbers-refused : (key : List ℕ) → onlyResidues (setOf set .q) (keyNumbers (setOf set) key) ≡ false → encryptDraws (setOf set) key ≡ refused 3 0
   unfolding encryptDraws
   numbers-refused key f = refuse-true 3 0 _ (ap not f)
 
   -- where there is none, the draws decide
-  pub draws-decide : (key message seed ns ms out old : List ℕ) (r : Outcome) → allBelow (setOf set .q) (keyNumbers (setOf set) key) ≡ true
+  pub draws-decide : (key message seed ns ms out old : List ℕ) (r : Outcome) → onlyResidues (setOf set .q) (keyNumbers (setOf set) key) ≡ true
       → ns ≡ keyNumbers (setOf set) key → ms ≡ map (residue (p .q)) (multipliersDrawn p seed)
       → r ≡ refuse (not (allTaken (setOf set .t) (publicDrawn (setOf set) (take (32 - 0) (drop 0 key))))) 5 0 accepted
       → out ≡ leaves (refuse (not (allTaken (setOf set .t) (publicDrawn (setOf set) (take (32 - 0) (drop 0 key))))) 5 0 accepted)

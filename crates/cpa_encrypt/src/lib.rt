@@ -12,7 +12,7 @@ ghost use Rattle.sets.specs.Table.{setOf, IsSet};
 ghost use Rattle.sets.specs.Derived.{publicKeyBytes, cpaCiphertextBytes};
 ghost use Rattle.packing.specs.Digits.{unpack};
 ghost use Rattle.samplers.specs.Seeded.{publicDrawn};
-ghost use Rattle.scheme.specs.Answers.{workLength, allTaken, allBelow, encryptDraws};
+ghost use Rattle.scheme.specs.Answers.{workLength, allTaken, onlyResidues, encryptDraws};
 ghost use Rattle.scheme.specs.Encryption as scheme;
 ghost use Rattle.cpa_encrypt.specs.Parts.{Multipliers, KeyResidues, Loaded, packedFirst, packedSecond};
 
@@ -23,7 +23,7 @@ mod vectors;
 // Unpacks the numbers of a public key into all of `numbers`; false where one of them is q or more.
 fn read_key(p: Parameters, bytes: &[u8], numbers: &mut [u32]) -> bool
     requires { ⌜ Rules p × ByteRules p ⌝ }
-    ensures answer { λ r. ⌜ r ≡ allBelow (p .q) (unpack (p .width) (length (now (numbers .entry))) (now (bytes .entry))) ⌝ }
+    ensures answer { λ r. ⌜ r ≡ onlyResidues (p .q) (unpack (p .width) (length (now (numbers .entry))) (now (bytes .entry))) ⌝ }
     ensures result { λ _. ⌜ now (numbers .exit) ≡ unpack (p .width) (length (now (numbers .entry))) (now (bytes .entry)) ⌝ }
 {
     packing::unpack_into(bytes, p.width, numbers);
@@ -70,7 +70,7 @@ fn encrypt_numbers(
 fn load(set: usize, key: &[u8], seed: &[u8], work: &mut [u32]) -> bool
     requires { ⌜ (1 ≤ set) × IsSet set × (length (now key) ≡ publicKeyBytes (setOf set)) × (length (now seed) ≡ 32)
         × (length (now work) ≡ workLength (setOf set)) ⌝ }
-    ensures answer { λ r. ⌜ r ≡ allBelow (setOf set .q) (scheme.keyNumbers (setOf set) (now (key .entry))) ⌝ }
+    ensures answer { λ r. ⌜ r ≡ onlyResidues (setOf set .q) (scheme.keyNumbers (setOf set) (now (key .entry))) ⌝ }
     ensures held { λ _. ⌜ Loaded (setOf set) (now (key .entry)) (now (seed .entry)) (now (work .exit)) ⌝ }
 {
     let p = sets::parameters_of(set);
@@ -125,7 +125,7 @@ pub fn numbers_before_packing(
     work: &mut [u32],
 )
     requires { ⌜ (1 ≤ set) × IsSet set × (length (now key) ≡ publicKeyBytes (setOf set))
-        × (allBelow (setOf set .q) (scheme.keyNumbers (setOf set) (now key)) ≡ true) × (length (now seed) ≡ 32) × (length (now out) ≡ setOf set .d)
+        × (onlyResidues (setOf set .q) (scheme.keyNumbers (setOf set) (now key)) ≡ true) × (length (now seed) ≡ 32) × (length (now out) ≡ setOf set .d)
         × (length (now work) ≡ workLength (setOf set)) ⌝ }
     ensures { λ _. ⌜ now (out .exit) ≡ scheme.encryptedNumbers (setOf set) (now (key .entry)) (now (message .entry)) (now (seed .entry)) ⌝ }
 {
@@ -139,7 +139,7 @@ pub fn numbers_before_packing(
 // Whether each number of a public key is below q; the work slice is lent for the numbers.
 pub fn key_below(set: usize, key: &[u8], work: &mut [u32]) -> bool
     requires { ⌜ (1 ≤ set) × IsSet set × (length (now key) ≡ publicKeyBytes (setOf set)) × (length (now work) ≡ workLength (setOf set)) ⌝ }
-    ensures { λ r. ⌜ r ≡ allBelow (setOf set .q) (scheme.keyNumbers (setOf set) (now (key .entry))) ⌝ }
+    ensures { λ r. ⌜ r ≡ onlyResidues (setOf set .q) (scheme.keyNumbers (setOf set) (now (key .entry))) ⌝ }
 {
     let p = sets::parameters_of(set);
     let keys = p.d1 * p.t;

@@ -3,9 +3,8 @@
 ghost use mathlib.Core.Path.{_≡_};
 ghost use Prim.Native.Nat.{_+_, _*_, _%_, _^_, _≤_, _<_};
 ghost use lib.ListN.{length, take, replicate};
-ghost use Rattle.maths.specs.Vector.{at, tabulate};
+ghost use Rattle.maths.specs.Vector.{at, tabulate, AllBelow};
 ghost use Rattle.calls.specs.Region.{vector};
-ghost use Rattle.ntt.specs.Ready.{AllBelow};
 ghost use Rattle.sets.specs.Table.{setOf, IsSet};
 ghost use Rattle.sets.specs.Derived.{transformSize, rootPowers};
 ghost use Rattle.packing.specs.Digits.{Digit};

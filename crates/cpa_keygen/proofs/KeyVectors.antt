@@ -9,7 +9,7 @@ use native.Mathlib.Numerals.{add-one}
 use native.Mathlib.Omega.{arith}
 use lib.ListN.{length, take, drop}
 use lib.Seq.{length-take-le, getD-take, take-take}
-use Rattle.maths.specs.Vector.{at}
+use Rattle.maths.specs.Vector.{at, AllBelow}
 use Rattle.maths.specs.Product.{correlation}
 use Rattle.maths.proofs.Vector.{tabulate-at, tabulate-cong}
 use Rattle.maths.proofs.Congruence.{mod-refl, mod-eq, mod-trans, mod-add, mod-remainder}
@@ -17,7 +17,6 @@ use Rattle.maths.proofs.Product.{correlation-mod}
 use Rattle.calls.specs.Region.{region, over, joined}
 use Rattle.calls.proofs.Region.{region-entry, region-length, over-length, over-append, over-over, over-lent, over-region, over-outside, region-part}
 use Rattle.calls.proofs.Region.{region-over-same, joined-length}
-use Rattle.ntt.specs.Ready.{AllBelow}
 use Rattle.sets.specs.declared.Parameters.{Parameters}
 use Rattle.sets.specs.Table.{setOf, IsSet}
 use Rattle.sets.specs.Derived.{transformSize}

@@ -6,10 +6,9 @@ use native.Mathlib.Nat.{mul-le-mul-left}
 use native.Mathlib.Omega.{arith}
 use Rattle.sets.specs.declared.Parameters.{Parameters}
 use Rattle.sets.specs.Table.{setOf, IsSet}
-use Rattle.sets.specs.Derived.{errorDrawBytes, publicKeyBytes}
+use Rattle.sets.specs.Derived.{errorDrawBytes, publicKeyBytes, errorCount}
 use Rattle.sets.specs.Rules.{ByteRules}
 use Rattle.sets.proofs.Rules.{rules, byteRules}
-use Rattle.samplers.specs.Seeded.{errorCount}
 use Rattle.scheme.specs.Answers.{workLength}
 use Rattle.cpa_keygen.specs.Held.{vectorsStart}
 

@@ -18,11 +18,11 @@ use Rattle.calls.specs.Region.{region, over, joined}
 use Rattle.calls.proofs.Region.{region-entry, region-region, region-over-same, over-length, joined-length, joined-each}
 use Rattle.sets.specs.declared.Parameters.{Parameters}
 use Rattle.sets.specs.Table.{setOf, IsSet}
-use Rattle.sets.specs.Derived.{transformSize, packedBytes}
+use Rattle.sets.specs.Derived.{transformSize, packedBytes, errorCount}
 use Rattle.sets.proofs.Rules.{rules}
 use Rattle.packing.specs.Digits.{Digit, pack}
 use Rattle.byte_source.specs.Source.{State, initial, output}
-use Rattle.samplers.specs.Seeded.{errorCount, secretSampled, secretDrawn, secretState, publicDrawn, errorsDrawn}
+use Rattle.samplers.specs.Seeded.{secretSampled, secretDrawn, secretState, publicDrawn, errorsDrawn}
 use Rattle.samplers.proofs.Laws.{uniform-length, uniform-below, errorsDrawn-length}
 use Rattle.ntt_products.specs.Stored.{sentInverse}
 use Rattle.ntt_products.proofs.Laws.{sentInverse-placed}

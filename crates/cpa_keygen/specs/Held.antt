@@ -6,12 +6,11 @@ use mathlib.Core.List.{List, [], _∷_, map}
 use Prim.Native.Nat.{ℕ, _+_, _-_, _*_, _%_}
 use lib.ListN.{length}
 use Rattle.maths.specs.Vector as vectors
-use Rattle.maths.specs.Vector.{at, tabulate}
+use Rattle.maths.specs.Vector.{at, tabulate, AllBelow}
 use Rattle.maths.specs.Integer.{residue}
 use Rattle.calls.specs.Region.{region}
-use Rattle.ntt.specs.Ready.{AllBelow}
 use Rattle.sets.specs.declared.Parameters.{Parameters}
-use Rattle.samplers.specs.Seeded.{errorCount}
+use Rattle.sets.specs.Derived.{errorCount}
 use Rattle.ntt_products.specs.Stored.{sentInverse, recoveredInverse}
 use Rattle.scheme.specs.Encryption.{storedSecret, errors, publicPolynomial, keyVector}
 use Rattle.scheme.specs.Answers.{workLength}

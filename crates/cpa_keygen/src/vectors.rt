@@ -7,7 +7,7 @@ ghost use Prim.Native.Nat.{suc, _+_, _*_, _^_, _≤_, _<_};
 ghost use lib.ListN.{length, take};
 ghost use Rattle.calls.specs.Outcome.{outcome, accepted, refuse};
 ghost use Rattle.calls.specs.Region.{over, joined};
-ghost use Rattle.ntt.specs.Ready.{AllBelow};
+ghost use Rattle.maths.specs.Vector.{AllBelow};
 ghost use Rattle.sets.specs.Table.{setOf, IsSet};
 ghost use Rattle.sets.specs.Derived.{transformSize, rootPowers};
 ghost use Rattle.byte_source.specs.Source.{stateAt};
@@ -25,7 +25,7 @@ pub fn vectors_start(set: usize) -> usize
     ensures { λ r. ⌜ r ≡ vectorsStart (setOf set) ⌝ }
 {
     let p = sets::parameters_of(set);
-    p.d3 + samplers::error_count(p)
+    p.d3 + sets::derived::error_count(p)
 }
 
 // Where they end.

@@ -3,4 +3,4 @@
 -- Assumes nothing.
 pub use Rattle.draws.proofs.Accept.{Within, accept-within, accept-below}
 pub use Rattle.draws.proofs.Bits.{power-most}
-pub use Rattle.draws.proofs.Positions.{bits-most, turn-length, turn-at, Turned, turned-none, turned-more}
+pub use Rattle.draws.proofs.Positions.{turn-length, turn-at, Turned, turned-none, turned-more}

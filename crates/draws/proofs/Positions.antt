@@ -1,7 +1,7 @@
--- Laws of the places of multipliers: bounds on sizes and places, and the bytes that a position needs.
+-- Laws of the places of multipliers: bounds on places, and the bytes that a position needs.
 -- Assumes nothing.
 use mathlib.Core.Path.{_≡_, refl, sym, ap, _∙_}
-use mathlib.Core.Bool.{Bool, true, false, _&&_, cond}
+use mathlib.Core.Bool.{Bool, true, false, _&&_}
 use mathlib.Core.List.{List}
 use Prim.Native.Nat.{ℕ, zero, suc, _+_, _*_, _/_, _≤_, _<_}
 use native.Mathlib.Nat.{mod-lt, le-trans, mul-le-mul-left, mul-le-mul-right, add-zero}
@@ -17,7 +17,7 @@ use Rattle.calls.proofs.Filled.{Filled, filled-none, filled-more}
 use Rattle.sets.specs.declared.Parameters.{Parameters}
 use Rattle.sets.specs.Rules.{Rules, ByteRules}
 use Rattle.sets.specs.Derived.{multiplierCount, multiplierBytes, multiplierDrawBytes}
-use Rattle.draws.specs.Small.{multiplierBits, signsAt, signBit}
+use Rattle.draws.specs.Small.{signsAt, signBit}
 use Rattle.draws.specs.Calls.{inTurn, lent, lentResults}
 
 -- a position, times the bytes of one size
@@ -34,15 +34,6 @@ module _ (p : Parameters) (rules : Rules p) where
   pub signs-most : ByteRules p → signsAt p ≤ 16384
   unfolding signsAt
   signs-most bytes = place-most (multiplierCount p) (multiplierBytes p) (rules .most-multipliers) (bytes .most-size)
-
-  -- a size has at most nine bits
-  pub bits-most : (position : ℕ) → multiplierBits p position ≤ 9
-  unfolding multiplierBits
-  bits-most position = go (ltb position (p .ndec1))
-    where
-      go : (first : Bool) → cond first (p .b1) (p .b2) ≤ 9
-      go true = omega (arith, rules .bounds, rules .most-b2)
-      go false = omega (arith, rules .most-b2)
 
 -- the bytes of a position are lent
 pub record Lent (p : Parameters) (bytes : List ℕ) (position : ℕ) : Type 0 where

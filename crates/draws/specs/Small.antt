@@ -4,13 +4,13 @@ use mathlib.Core.Path.{_≡_, refl}
 use mathlib.Core.Bool.{cond}
 use mathlib.Core.List.{List, [], _∷_}
 use Prim.Native.Nat.{ℕ, zero, suc, _+_, _*_, _/_, _%_, _^_}
-use lib.Dec.{ltb, eqb}
+use lib.Dec.{eqb}
 use lib.IntN.{ℤ, pos, negsuc, negℤ, _-ℤ_}
 use lib.ListN.{getD}
 use Rattle.calls.specs.Region.{region}
 use Rattle.sets.specs.declared.Parameters.{Parameters}
 use Rattle.sets.specs.Table.{table, setOf}
-use Rattle.sets.specs.Derived.{multiplierCount, multiplierBytes}
+use Rattle.sets.specs.Derived.{multiplierCount, multiplierBits, multiplierBytes}
 use Rattle.maths.specs.Bytes.{littleEndian}
 
 -- how many of the low bits of a number are 1
@@ -29,10 +29,6 @@ errorAt bytes j = errorOf (getD bytes j 0)
 -- algorithm 10: a multiplier of the size that bytes give, 1 to 2^bits, negative where the sign bit is 1
 unfoldable pub multiplierOf : ℕ → ℕ → ℕ → ℤ
 multiplierOf bits size sign = cond (eqb sign 1) (negℤ (pos (size % 2 ^ bits + 1))) (pos (size % 2 ^ bits + 1))
-
--- sizes are drawn from b1 bits at the first N_dec1 positions, and from b2 bits at the others
-unfoldable pub multiplierBits : Parameters → ℕ → ℕ
-multiplierBits p position = cond (ltb position (p .ndec1)) (p .b1) (p .b2)
 
 -- the place of the first sign byte: after the sizes of all positions of one sealing
 unfoldable pub signsAt : Parameters → ℕ
@@ -75,15 +71,7 @@ signBit-example₂ : signBit (0 ∷ 0 ∷ 0 ∷ 0b0000_0100 ∷ []) 2 13 ≡ 0
 unfolding signBit
 signBit-example₂ = refl
 
--- set 1 has 2,560 positions of one byte, the first 1,488 of them with 7 bits
-multiplierBits-example : multiplierBits (setOf 1) 1487 ≡ 7
-unfolding table setOf multiplierBits
-multiplierBits-example = refl
-
-multiplierBits-example₂ : multiplierBits (setOf 1) 1488 ≡ 8
-unfolding table setOf multiplierBits
-multiplierBits-example₂ = refl
-
+-- set 1 has 2,560 positions of one byte
 signsAt-example : signsAt (setOf 1) ≡ 2560
 unfolding table setOf multiplierCount multiplierBytes signsAt
 signsAt-example = refl

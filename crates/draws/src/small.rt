@@ -9,7 +9,7 @@ ghost use Rattle.calls.specs.Region.{region};
 ghost use Rattle.sets.specs.Rules.{Rules, ByteRules};
 ghost use Rattle.sets.specs.Derived.{multiplierCount};
 ghost use Rattle.maths.specs.Bytes.{littleEndian};
-ghost use Rattle.draws.specs.Small.{errorOf, errorAt, multiplierOf, multiplierBits, signsAt, signBit, multiplierAt};
+ghost use Rattle.draws.specs.Small.{errorOf, errorAt, multiplierOf, signsAt, signBit, multiplierAt};
 ghost use Rattle.draws.specs.Calls.{inTurn, lent, lentResults};
 
 // The error that a byte gives.
@@ -67,13 +67,6 @@ fn signs_at(p: Parameters) -> usize
     sets::derived::multiplier_count(p) * sets::derived::multiplier_bytes(p)
 }
 
-// The bits of a size at a position.
-fn multiplier_bits(p: Parameters, position: usize) -> u32
-    ensures { λ r. ⌜ r ≡ multiplierBits p position ⌝ }
-{
-    if position < p.ndec1 { p.b1 } else { p.b2 }
-}
-
 // Whether the size bytes and the sign byte of a position are lent.
 fn is_lent(p: Parameters, bytes: &[u8], position: usize) -> bool
     requires { ⌜ Rules p × ByteRules p × (position < multiplierCount p) ⌝ }
@@ -92,7 +85,7 @@ pub fn multiplier_at(p: Parameters, bytes: &[u8], position: usize) -> i32
     let width = sets::derived::multiplier_bytes(p);
     let size = number_at(bytes, position * width, width);
     let sign = sign_at(bytes, signs_at(p), position);
-    multiplier_of(multiplier_bits(p, position), size, sign)
+    multiplier_of(sets::derived::multiplier_bits(p, position), size, sign)
 }
 
 // How many results in turn, from the first position on, have their bytes lent.

@@ -11,10 +11,10 @@ use Rattle.calls.specs.Outcome.{Outcome, accepted, refused, refuse, leaves}
 use Rattle.calls.specs.Region.{region}
 use Rattle.sets.specs.declared.Parameters.{Parameters}
 use Rattle.sets.specs.Table.{table, setOf, noSet}
-use Rattle.sets.specs.Derived.{multiplierCount, multiplierBytes}
+use Rattle.sets.specs.Derived.{multiplierCount, multiplierBytes, multiplierBits}
 use Rattle.maths.specs.Bytes.{littleEndian}
 use Rattle.draws.specs.Uniform.{candidates, verdict, later, find, put, continued, Drawn, accept, numbers}
-use Rattle.draws.specs.Small.{ones, errorOf, errorAt, multiplierOf, multiplierBits, signBit, multiplierAt, signsAt}
+use Rattle.draws.specs.Small.{ones, errorOf, errorAt, multiplierOf, signBit, multiplierAt, signsAt}
 use Rattle.draws.specs.Calls.{drawnAnswer, inTurn, lent, lentResults}
 
 -- the first checks of each draw: 1 when the set is not 1 to 12, 2 when more than 4,096 results are wanted. The place of 2 is 0: it is

@@ -12,7 +12,7 @@ use Rattle.calls.specs.declared.Answer.{Answer}
 use Rattle.calls.specs.declared.Answer.the-variants.{Done, Refused}
 use Rattle.calls.specs.Outcome.{Outcome, accepted, refused, refuse, outcome}
 use Rattle.calls.specs.Checks.{passing, refuseFirst, below}
-use Rattle.middle.specs.Operand.{Below}
+use Rattle.maths.specs.Vector.{Below}
 use Rattle.calls.proofs.Outcome.{accepted-refused}
 use Rattle.calls.proofs.Checks.{refuseFirst-passes, refuseFirst-accepted, refuseFirst-below-append, passing-below}
 

@@ -10,7 +10,8 @@ use lib.ListN.{length}
 use Rattle.calls.specs.Outcome.{Outcome, refused, refuse}
 use Rattle.calls.specs.Checks.{allOf}
 use Rattle.sets.specs.Table.{lastSet, noSet}
-use Rattle.middle.specs.Operand.{Below, Operand}
+use Rattle.maths.specs.Vector.{Below}
+use Rattle.middle.specs.Operand.{Operand}
 
 -- the checks of the set and of the lengths, and then the others
 abbrev pub opening : ℕ → List Bool → ℕ → Outcome → Outcome

@@ -9,13 +9,12 @@ use native.Mathlib.Numerals.{add-one}
 use native.Mathlib.Omega.{arith}
 use lib.Arith.{digits-lt}
 use lib.ListN.{length}
-use Rattle.maths.specs.Vector.{at}
+use Rattle.maths.specs.Vector.{at, AllBelow}
 use Rattle.maths.specs.Transform.{transform}
 use Rattle.maths.proofs.Vector.{equal-by-place}
 use Rattle.maths.proofs.Transform.{transform-length, transform-at}
 use Rattle.calls.specs.Region.{region, over}
 use Rattle.calls.proofs.Region.{region-length, region-entry, region-over-same, over-inside, over-outside, over-length, over-over}
-use Rattle.ntt.specs.Ready.{AllBelow}
 use Rattle.ntt.specs.Rows.{twisted, forwardRow, inverseRow, RowAt, RowsReady, Rows}
 use Rattle.ntt.proofs.Places.{same-row, row-end}
 use Rattle.ntt.proofs.Rows.{twisted-length, twisted-at}

@@ -10,10 +10,9 @@ use native.Mathlib.Omega.{arith}
 use lib.Arith.{digits-lt}
 use lib.ListN.{length, set, length-set}
 use lib.Seq.{getD-set-same, getD-set-other}
-use Rattle.maths.specs.Vector.{at}
+use Rattle.maths.specs.Vector.{at, AllBelow}
 use Rattle.maths.proofs.Sum.{sum-none, sum-last, sum-cong}
 use Rattle.residues.proofs.Laws.{product-below}
-use Rattle.ntt.specs.Ready.{AllBelow}
 use Rattle.ntt.proofs.Places.{same-row, same-column}
 use Rattle.ntt.specs.Columns.{columnSum, Summable, ColumnReady, Column, ColumnsReady, Columns}
 

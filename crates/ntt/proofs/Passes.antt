@@ -11,7 +11,7 @@ use native.Mathlib.Omega.{arith}
 use lib.Arith.{digits-lt}
 use lib.Pow.{pow-add, pow-pos}
 use lib.ListN.{length, take, drop}
-use Rattle.maths.specs.Vector.{at}
+use Rattle.maths.specs.Vector.{at, AllBelow}
 use Rattle.maths.specs.Congruence.{Mod}
 use Rattle.maths.specs.Transform.{transformAt, transform}
 use Rattle.maths.proofs.Vector.{equal-by-place}
@@ -21,7 +21,7 @@ use Rattle.maths.proofs.Radix.{Passed, first-pass, next-pass, last-pass}
 use Rattle.maths.proofs.Transform.{transform-length, transform-at}
 use Rattle.calls.specs.Region.{region, over}
 use Rattle.calls.proofs.Region.{region-part, region-length, region-entry, over-whole}
-use Rattle.ntt.specs.Ready.{AllBelow, Ready}
+use Rattle.ntt.specs.Ready.{Ready}
 use Rattle.ntt.specs.Rows.{Pass, PassReady}
 use Rattle.ntt.proofs.Ready.{table-length, table-at, table-below, few-passes}
 

@@ -8,11 +8,11 @@ use native.Mathlib.Decide.{decLt}
 use native.Mathlib.Omega.{arith}
 use lib.Pow.{pow-pos, pow-mono}
 use lib.ListN.{length}
-use Rattle.maths.specs.Vector.{at}
+use Rattle.maths.specs.Vector.{at, AllBelow}
 use Rattle.maths.specs.Root.{Root, powerTable}
 use Rattle.maths.proofs.PowerTable.{powerTable-length, powerTable-at}
 use Rattle.maths.proofs.Radix.{half-power}
-use Rattle.ntt.specs.Ready.{AllBelow, Ready}
+use Rattle.ntt.specs.Ready.{Ready}
 
 module _ {q ρ δ w : ℕ} {powers : List ℕ} (ready : Ready q ρ δ w powers) where
   -- the table has δ · ρ powers

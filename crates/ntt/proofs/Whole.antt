@@ -9,7 +9,7 @@ use lib.Arith.{digits-lt}
 use lib.Pow.{pow-add}
 use lib.ListN.{length, take, length-take}
 use lib.Seq.{getD-take}
-use Rattle.maths.specs.Vector.{at}
+use Rattle.maths.specs.Vector.{at, AllBelow}
 use Rattle.maths.specs.Congruence.{Mod}
 use Rattle.maths.specs.Transform as maths
 use Rattle.maths.specs.Transform.{transformAt, transform, send, recover}
@@ -21,7 +21,7 @@ use Rattle.maths.proofs.Convolution.{transform-mod}
 use Rattle.maths.proofs.Transform.{transform-length, transform-at, send-length, send-row, send-columns-rows, recover-length, recover-at, recover-rows-columns}
 use Rattle.calls.specs.Region.{region}
 use Rattle.calls.proofs.Region.{region-length, region-entry}
-use Rattle.ntt.specs.Ready.{AllBelow, Ready}
+use Rattle.ntt.specs.Ready.{Ready}
 use Rattle.ntt.specs.Columns.{columnSum, Columns, RootsReady, ColumnsReady}
 use Rattle.ntt.specs.Rows.{twisted, forwardRow, inverseRow, Rows}
 use Rattle.ntt.proofs.Places.{row-end, product-place, by-rows, equal-by-rows}

@@ -4,10 +4,9 @@ use mathlib.Core.Path.{_≡_, refl}
 use mathlib.Core.List.{List, [], _∷_}
 use Prim.Native.Nat.{ℕ, _+_, _*_, _%_, _^_, _≤_, _<_}
 use lib.ListN.{length}
-use Rattle.maths.specs.Vector.{at}
+use Rattle.maths.specs.Vector.{at, AllBelow}
 use Rattle.maths.specs.Sum as sums
 use Rattle.maths.specs.Sum.{sum}
-use Rattle.ntt.specs.Ready.{AllBelow}
 
 -- value r of a column of m numbers: roots has the δ powers of the root of a column, one after the other
 unfoldable pub columnSum : List ℕ → ℕ → ℕ → (ℕ → ℕ) → ℕ → ℕ

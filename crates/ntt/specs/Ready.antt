@@ -4,13 +4,8 @@ use mathlib.Core.Path.{_≡_}
 use mathlib.Core.List.{List}
 use Prim.Native.Nat.{ℕ, _+_, _*_, _^_, _≤_, _<_}
 use lib.ListN.{length}
-use Rattle.maths.specs.Vector.{at}
 use Rattle.maths.specs.Congruence.{Mod}
 use Rattle.maths.specs.Root.{Root, powerTable}
-
--- the first n numbers of xs are below q
-pub record AllBelow (q n : ℕ) (xs : List ℕ) : Type 0 where
-  pub each : (i : ℕ) → i < n → at xs i < q
 
 -- δ rows of ρ numbers modulo q, ρ a power of two, and the powers of w, which has the order δ · ρ: half of it, where it is even, takes w to −1
 pub record Ready (q ρ δ w : ℕ) (powers : List ℕ) : Type 0 where

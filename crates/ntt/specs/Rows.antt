@@ -5,10 +5,10 @@ use mathlib.Core.List.{List, [], _∷_}
 use Prim.Native.Nat.{ℕ, _+_, _-_, _*_, _%_, _^_, _≤_, _<_}
 use lib.ListN.{length}
 use Rattle.maths.specs.Vector as vectors
-use Rattle.maths.specs.Vector.{at, tabulate}
+use Rattle.maths.specs.Vector.{at, tabulate, AllBelow}
 use Rattle.maths.specs.Transform.{transform}
 use Rattle.calls.specs.Region.{region}
-use Rattle.ntt.specs.Ready.{AllBelow, Ready}
+use Rattle.ntt.specs.Ready.{Ready}
 
 -- row r with each number multiplied by the power of the root for its place
 unfoldable pub twisted : ℕ → List ℕ → ℕ → List ℕ → List ℕ

@@ -3,10 +3,10 @@
 ghost use mathlib.Core.Path.{_≡_};
 ghost use Prim.Native.Nat.{_+_, _*_, _%_, _^_, _≤_, _<_};
 ghost use lib.ListN.{length, take};
-ghost use Rattle.maths.specs.Vector.{at, tabulate};
+ghost use Rattle.maths.specs.Vector.{at, tabulate, AllBelow};
 ghost use Rattle.maths.specs.Transform.{transform, send, recover};
 ghost use Rattle.calls.specs.Region.{region, over};
-ghost use Rattle.ntt.specs.Ready.{AllBelow, Ready, InvertedTable};
+ghost use Rattle.ntt.specs.Ready.{Ready, InvertedTable};
 ghost use Rattle.ntt.specs.Columns.{columnSum, Summable, ColumnReady, Column, ColumnsReady, Columns, RootsReady};
 ghost use Rattle.ntt.specs.Rows.{PassReady, Pass, twisted, RowReady, RowAt, RowsReady, Rows, forwardRow, inverseRow};
 

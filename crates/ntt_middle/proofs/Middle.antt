@@ -5,13 +5,12 @@ use mathlib.Core.List.{List}
 use Prim.Native.Nat.{ℕ, _+_, _-_, _≤_, _<_}
 use native.Mathlib.Omega.{arith}
 use lib.ListN.{length, take}
-use Rattle.maths.specs.Vector.{at, tabulate}
+use Rattle.maths.specs.Vector.{at, tabulate, AllBelow}
 use Rattle.maths.specs.Product.{middleProduct}
 use Rattle.maths.proofs.Vector.{tabulate-length, tabulate-at, tabulate-cong}
 use Rattle.maths.proofs.Congruence.{mod-eq, mod-remainder}
 use Rattle.maths.proofs.Product.{reversed, correlation-mod, middle-correlation}
 use Rattle.calls.specs.Region.{region, over}
-use Rattle.ntt.specs.Ready.{AllBelow}
 use Rattle.sets.specs.Table.{setOf, IsSet}
 use Rattle.sets.specs.Derived.{transformSize}
 use Rattle.ntt_products.specs.Stored.{sentInverse, recoveredInverse, correlations}

@@ -8,7 +8,7 @@ use native.Mathlib.Omega.{arith}
 use lib.ListN.{length}
 use Rattle.calls.specs.Region.{over}
 use Rattle.calls.proofs.Region.{over-inside, over-length}
-use Rattle.ntt.specs.Ready.{AllBelow}
+use Rattle.maths.specs.Vector.{AllBelow}
 use Rattle.sets.specs.Table.{setOf}
 use Rattle.sets.specs.Derived.{transformSize}
 use Rattle.ntt_products.specs.Placed.{Placed}

@@ -8,7 +8,7 @@ use native.Mathlib.Decide.{decLt}
 use native.Mathlib.Omega.{arith}
 use lib.ListN.{length, take, replicate, length-take, length-replicate, getD-replicate}
 use lib.Seq.{getD-take}
-use Rattle.maths.specs.Vector.{at}
+use Rattle.maths.specs.Vector.{at, AllBelow}
 use Rattle.maths.specs.Transform.{send}
 use Rattle.maths.proofs.Vector.{at-past, equal-by-place}
 use Rattle.maths.proofs.Congruence.{mod-eq}
@@ -16,7 +16,6 @@ use Rattle.maths.proofs.Convolution.{transform-mod}
 use Rattle.maths.proofs.Transform.{send-length, send-at}
 use Rattle.calls.specs.Region.{over}
 use Rattle.calls.proofs.Region.{over-inside, over-outside}
-use Rattle.ntt.specs.Ready.{AllBelow}
 
 -- n zeros
 abbrev zeros : ℕ → List ℕ

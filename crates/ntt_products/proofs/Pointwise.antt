@@ -5,9 +5,8 @@ use mathlib.Core.List.{List}
 use Prim.Native.Nat.{ℕ, _+_, _*_, _%_, _<_}
 use native.Mathlib.Nat.{mod-lt}
 use lib.ListN.{length}
-use Rattle.maths.specs.Vector.{at}
+use Rattle.maths.specs.Vector.{at, AllBelow}
 use Rattle.maths.proofs.Vector.{tabulate-length, tabulate-at}
-use Rattle.ntt.specs.Ready.{AllBelow}
 use Rattle.ntt_products.specs.Stored.{products, accumulated}
 
 module _ (q : ℕ) (x y : List ℕ) where

@@ -7,7 +7,8 @@ use native.Mathlib.Omega.{arith}
 use lib.ListN.{length}
 use Rattle.maths.specs.Transform.{send, recover}
 use Rattle.maths.proofs.Transform.{send-length, recover-length}
-use Rattle.ntt.specs.Ready.{AllBelow, Ready}
+use Rattle.maths.specs.Vector.{AllBelow}
+use Rattle.ntt.specs.Ready.{Ready}
 use Rattle.ntt.proofs.Whole.{send-below, recover-below}
 use Rattle.sets.specs.Table.{setOf, IsSet}
 use Rattle.sets.specs.Derived.{transformSize}

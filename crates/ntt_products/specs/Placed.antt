@@ -4,7 +4,7 @@ use mathlib.Core.Path.{_≡_}
 use mathlib.Core.List.{List}
 use Prim.Native.Nat.{ℕ, _+_, _≤_}
 use lib.ListN.{length, take}
-use Rattle.ntt.specs.Ready.{AllBelow}
+use Rattle.maths.specs.Vector.{AllBelow}
 use Rattle.sets.specs.declared.Parameters.{Parameters}
 use Rattle.sets.specs.Derived.{transformSize}
 use Rattle.ntt_products.specs.Stored.{recoveredInverse, correlations}

@@ -10,7 +10,7 @@ use native.Mathlib.Omega.{arith}
 use lib.IntN.{ℤ, pos, natAbs}
 use lib.ListN.{length, getD, take, drop, List·getD-map}
 use borrow.Author.Tests.{leb-true}
-use Rattle.maths.specs.Vector.{at}
+use Rattle.maths.specs.Vector.{at, Below}
 use Rattle.maths.specs.Product.{product}
 use Rattle.maths.specs.Integer.{residue}
 use Rattle.maths.proofs.Vector.{tabulate-length, tabulate-at, tabulate-past}
@@ -22,7 +22,7 @@ use Rattle.calls.proofs.Checks.{refuseFirst-accepted, passing-all}
 use Rattle.calls.proofs.Region.{region-entry, region-part, joined-length, vector-joined, joined-each}
 use Rattle.sets.specs.declared.Parameters.{Parameters}
 use Rattle.sets.specs.Table.{setOf, lastSet}
-use Rattle.middle.specs.Operand.{Below}
+use Rattle.sets.specs.Derived.{errorCount}
 use Rattle.middle.proofs.OpenCall.{opening-passed}
 use Rattle.calls.specs.Region.{vector}
 use Rattle.numbers.specs.Scheme.{residues, keyPart, key}
@@ -42,8 +42,8 @@ module _ (p : Parameters) (a s : List ℕ) (e : List ℤ) where
   keyPart-length i = tabulate-length (p .d + p .k) _
 
   -- as many numbers as there are errors
-  pub key-length : length (key p a s e) ≡ p .t * (p .d + p .k)
-  unfolding key
+  pub key-length : length (key p a s e) ≡ errorCount p
+  unfolding key errorCount
   key-length = joined-length (p .d + p .k) (p .t) (keyPart p a s e) (λ i h. keyPart-length i) ∙ mul-comm (p .d + p .k) (p .t)
 
   -- vector i of b is b_i
@@ -76,9 +76,10 @@ module _ (p : Parameters) (a s : List ℕ) (e : List ℤ) where
         ∙ rw (middleProduct-at (p .q) (vector (p .n) a i) s (p .d + p .k) j inside, vector-length (p .n) (p .t) i a size h, residues-at, mod-add-mod)
 
     -- the number at place l of b
-    key-at : (l : ℕ) → l < p .t * (p .d + p .k) → 0 < p .d + p .k
+    key-at : (l : ℕ) → l < errorCount p → 0 < p .d + p .k
         → at (key p a s e) l
         ≡ (product (vector (p .n) a (l / (p .d + p .k))) s (p .n - 1 + l % (p .d + p .k)) + residue (p .q) (getD e l (pos 0))) % p .q
+    unfolding errorCount
     key-at l h some =
         let w = p .d + p .k in
         let i = l / w in
@@ -92,7 +93,7 @@ module _ (p : Parameters) (a s : List ℕ) (e : List ℤ) where
         (region-entry e (w * i) w j (pos 0) inside ∙ ap (λ (m : ℕ). getD e m (pos 0)) place)
 
     -- it is the sum of a place of the product and the error's residue
-    pub key-sum : (l from end x y : ℕ) → l < p .t * (p .d + p .k) → 0 < p .d + p .k → from ≡ p .n * (l / (p .d + p .k)) → end ≡ from + p .n
+    pub key-sum : (l from end x y : ℕ) → l < errorCount p → 0 < p .d + p .k → from ≡ p .n * (l / (p .d + p .k)) → end ≡ from + p .n
         → x ≡ product (take (end - from) (drop from a)) s (p .n - 1 + l % (p .d + p .k)) % p .q → y ≡ residue (p .q) (getD e l (pos 0))
         → (x + y) % p .q ≡ at (key p a s e) l
     key-sum l from end x y h some start stop first second =

@@ -5,9 +5,8 @@ use mathlib.Core.Bool.{Bool, true, false, _&&_}
 use mathlib.Core.List.{List}
 use Prim.Native.Nat.{ℕ, _+_, _*_, _%_, _^_, _≤_, _<_}
 use native.Mathlib.Nat.{one-mul, mod-eq-of-lt}
-use native.Mathlib.Decide.{decLt}
 use native.Mathlib.Omega.{arith}
-use borrow.Author.Tests.{lt-ltb, le-ltb, le-leb, lt-leb, leb-true, leb-false}
+use borrow.Author.Tests.{le-leb, lt-leb, leb-true, leb-false}
 use lib.Dec.{leb}
 use lib.IntN.{ℤ, pos, natAbs}
 use lib.ListN.{length, getD}
@@ -17,31 +16,20 @@ use Rattle.calls.specs.Checks.{refuseFirst}
 use Rattle.calls.proofs.Checks.{refuseFirst-accepted, passing-all}
 use Rattle.sets.specs.declared.Parameters.{Parameters}
 use Rattle.sets.specs.Rules.{Rules}
-use Rattle.numbers.specs.Calls.{isMultiplier, multiplierBound}
-
--- a bit shifted by fewer than 32 places
-shifted : (b : ℕ) → b < 32 → 1 * 2 ^ b % 2 ^ 32 ≡ 2 ^ b
-shifted b h = rw one-mul (mod-eq-of-lt (pow-lt h))
+use Rattle.sets.specs.Derived.{multiplierBits, multiplierBound}
+use Rattle.sets.proofs.Counts.{bits-most}
+use Rattle.numbers.specs.Calls.{isMultiplier}
 
 module _ (p : Parameters) (kept : Rules p) (position : ℕ) where
-  -- the first bound
-  pub bound-first : position < p .ndec1 → 1 * 2 ^ p .b1 % 2 ^ 32 ≡ multiplierBound p position
+  -- a bit shifted by the bits of a size is the bound
+  pub bound-shifted : 1 * 2 ^ multiplierBits p position % 2 ^ 32 ≡ multiplierBound p position
   unfolding multiplierBound
-  bound-first h = rw (lt-ltb position (p .ndec1) h) (shifted (p .b1) (omega (arith, kept .bounds, kept .most-b2)))
+  bound-shifted = rw one-mul (mod-eq-of-lt (pow-lt {i = multiplierBits p position} {j = 32} (omega (arith, bits-most p kept position))))
 
-  -- the second
-  pub bound-second : p .ndec1 ≤ position → 1 * 2 ^ p .b2 % 2 ^ 32 ≡ multiplierBound p position
-  unfolding multiplierBound
-  bound-second h = rw (le-ltb position (p .ndec1) h) (shifted (p .b2) (omega (arith, kept .most-b2)))
-
-  -- both are small
+  -- the bound is small
   pub bound-small : multiplierBound p position < 2 ^ 24
   unfolding multiplierBound
-  bound-small =
-      elim (decLt position (p .ndec1)) [
-        | yes h ↦ rw (lt-ltb position (p .ndec1) h) (pow-lt {i = p .b1} {j = 24} (omega (arith, kept .bounds, kept .most-b2)))
-        | no h ↦ rw (le-ltb position (p .ndec1) (omega arith)) (pow-lt {i = p .b2} {j = 24} (omega (arith, kept .most-b2)))
-      ]
+  bound-small = pow-lt {i = multiplierBits p position} {j = 24} (omega (arith, bits-most p kept position))
 
 -- 0 is no multiplier
 pub multiplier-zero : (p : Parameters) (position : ℕ) (z : ℤ) → leb (natAbs z) 0 ≡ true → false ≡ isMultiplier p position z

@@ -6,7 +6,7 @@ use mathlib.Core.List.{List, _++_}
 use Prim.Native.Nat.{ℕ, _+_, _-_, _%_, _≤_, _<_}
 use native.Mathlib.Nat.{mod-lt}
 use lib.ListN.{length, length-append}
-use Rattle.maths.specs.Vector.{at}
+use Rattle.maths.specs.Vector.{at, Below}
 use Rattle.maths.specs.Product.{product}
 use Rattle.maths.proofs.Vector.{tabulate-length, tabulate-at}
 use Rattle.maths.proofs.Product.{middleProduct-at}
@@ -16,7 +16,6 @@ use Rattle.sets.specs.declared.Parameters.{Parameters}
 use Rattle.sets.specs.Table.{setOf, lastSet}
 use Rattle.numbers.specs.Scheme.{opened, roundedBit, reading}
 use Rattle.numbers.specs.Calls.{readingShape, readingRange, readingAnswer}
-use Rattle.middle.specs.Operand.{Below}
 use Rattle.middle.proofs.Chained.{two-slices, accepted-one, accepted-two}
 use Rattle.middle.proofs.OpenCall.{opening-passed}
 

@@ -10,7 +10,7 @@ use native.Mathlib.Omega.{arith}
 use lib.IntN.{ℤ}
 use lib.ListN.{length, length-map}
 use Rattle.maths.specs.Sum.{sum}
-use Rattle.maths.specs.Vector.{at, tabulate}
+use Rattle.maths.specs.Vector.{at, tabulate, Below}
 use Rattle.maths.specs.Product.{product, middleProduct}
 use Rattle.maths.specs.Congruence.{Mod}
 use Rattle.maths.specs.Integer.{residue}
@@ -23,8 +23,6 @@ use Rattle.calls.specs.Checks.{allOf}
 use Rattle.sets.specs.declared.Parameters.{Parameters}
 use Rattle.sets.specs.Table.{setOf, lastSet}
 use Rattle.sets.specs.Derived.{halfModulus, multiplierCount}
-use Rattle.sets.specs.Rules.{Rules}
-use Rattle.middle.specs.Operand.{Below}
 use Rattle.middle.proofs.OpenCall.{opening-passed}
 use Rattle.calls.specs.Region.{vector}
 use Rattle.numbers.specs.Scheme.{residues, sumOfProducts, firstPart, sumOfMiddles, secondPart}
@@ -62,9 +60,9 @@ unfolding sumOfProducts
 sumOfProducts-terms t m xs n ys place = refl
 
 -- the sum of the middle products is the sum of the products from place k on, modulo q
-pub middles-products : (p : Parameters) (x b : List ℕ) (j : ℕ) → length x ≡ p .t * (p .k + 1) → j < p .d
+pub middles-products : (p : Parameters) (x b : List ℕ) (j : ℕ) → length x ≡ multiplierCount p → j < p .d
     → Mod (p .q) (sumOfMiddles p x b j) (sumOfProducts (p .t) (p .k + 1) x (p .d + p .k) b (p .k + j))
-unfolding sumOfMiddles sumOfProducts
+unfolding sumOfMiddles sumOfProducts multiplierCount
 middles-products p x b j size h =
     mod-sum (p .t) _ _ (λ i inside.
     let u = vector (p .k + 1) x i in
@@ -77,11 +75,6 @@ middles-products p x b j size h =
 -- the residues of whole numbers are a family
 pub residues-family : (q m t : ℕ) (r : List ℤ) → 0 < q → length r ≡ t * m → Family q m t (residues q r)
 residues-family q m t r some e = record { size = length-map r (residue q) ∙ e; each = λ k h. rw residues-at (residue-lt q _ some) }
-
--- there are at most 8,192 multipliers
-pub multipliers-most : (p : Parameters) → Rules p → p .t * (p .k + 1) ≤ 8192
-unfolding multiplierCount
-multipliers-most p kept = kept .most-multipliers
 
 module _ (p : Parameters) (a : List ℕ) (r : List ℤ) where
   -- c1 from the residues of r

@@ -1,24 +1,21 @@
 -- Key, sealing and reading on numbers: what each open call answers and leaves (01, How each call answers).
 -- Assumes nothing.
-use mathlib.Core.Bool.{Bool, not, _&&_, cond}
+use mathlib.Core.Bool.{Bool, not, _&&_}
 use mathlib.Core.List.{List, [], _∷_, _++_}
-use Prim.Native.Nat.{ℕ, _+_, _-_, _*_, _^_}
-use lib.Dec.{leb, ltb, eqb}
+use Prim.Native.Nat.{ℕ, _+_, _-_, _*_}
+use lib.Dec.{leb, eqb}
 use lib.IntN.{ℤ, natAbs}
 use lib.ListN.{length}
 use Rattle.calls.specs.Outcome.{Outcome, accepted, refuse, leaves}
 use Rattle.calls.specs.Checks.{allOf, refuseFirst, below}
 use Rattle.sets.specs.declared.Parameters.{Parameters}
 use Rattle.sets.specs.Table.{setOf, noSet}
+use Rattle.sets.specs.Derived.{multiplierCount, multiplierBound, errorCount}
 use Rattle.numbers.specs.Scheme.{key, firstPart, secondPart, reading}
 
 -- an error of size at most η, at any position
 abbrev pub isError : ℕ → ℕ → ℤ → Bool
 isError eta position z = leb (natAbs z) eta
-
--- the largest size B/2 of a multiplier at a position
-unfoldable pub multiplierBound : Parameters → ℕ → ℕ
-multiplierBound p position = 2 ^ cond (ltb position (p .ndec1)) (p .b1) (p .b2)
 
 -- a multiplier: not 0, and of size at most B/2 at its position
 abbrev pub isMultiplier : Parameters → ℕ → ℤ → Bool
@@ -27,7 +24,7 @@ isMultiplier p position z = leb 1 (natAbs z) && leb (natAbs z) (multiplierBound 
 -- key: a (t · n), s (n + d + k − 1), e (t · (d + k)), and b as long as e
 abbrev pub keyShape : Parameters → ℕ → ℕ → ℕ → ℕ → List Bool
 keyShape p a s e b =
-    eqb a (p .t * p .n) ∷ eqb s (p .n + p .d + p .k - 1) ∷ eqb e (p .t * (p .d + p .k)) ∷ eqb b (p .t * (p .d + p .k)) ∷ []
+    eqb a (p .t * p .n) ∷ eqb s (p .n + p .d + p .k - 1) ∷ eqb e (errorCount p) ∷ eqb b (errorCount p) ∷ []
 
 -- 3 at the first number out of range, its place counted through a, s, e
 abbrev pub keyRange : ℕ → ℕ → List ℕ → List ℕ → List ℤ → Outcome
@@ -44,7 +41,7 @@ keyLeft set a s e b = leaves (keyAnswer set a s e (length b)) (key (setOf set) a
 -- sealing: a, b, r (t · (k + 1)), message (d), c1 (n + k), c2 (d)
 abbrev pub sealingShape : Parameters → ℕ → ℕ → ℕ → ℕ → ℕ → ℕ → List Bool
 sealingShape p a b r m c1 c2 =
-    eqb a (p .t * p .n) ∷ eqb b (p .t * (p .d + p .k)) ∷ eqb r (p .t * (p .k + 1)) ∷ eqb m (p .d) ∷ eqb c1 (p .n + p .k) ∷ eqb c2 (p .d) ∷ []
+    eqb a (p .t * p .n) ∷ eqb b (errorCount p) ∷ eqb r (multiplierCount p) ∷ eqb m (p .d) ∷ eqb c1 (p .n + p .k) ∷ eqb c2 (p .d) ∷ []
 
 -- 3 at the first number out of range, its place counted through a, b, r, message; the last two from offset on
 abbrev pub multipliersAndMessage : Parameters → ℕ → List ℤ → List ℕ → Outcome

@@ -6,7 +6,9 @@ use Prim.Native.Nat.{ℕ, _+_, _*_, _^_, _≤_, _<_}
 use lib.IntN.{ℤ, pos, natAbs}
 use lib.ListN.{length, getD}
 use Rattle.sets.specs.declared.Parameters.{Parameters}
-use Rattle.middle.specs.Operand.{Below, Operand}
+use Rattle.sets.specs.Derived.{multiplierCount, errorCount}
+use Rattle.maths.specs.Vector.{Below}
+use Rattle.middle.specs.Operand.{Operand}
 
 -- what reading works on
 pub record ReadingOperands (p : Parameters) (c1 c2 s : List ℕ) : Type 0 where
@@ -25,14 +27,14 @@ pub record Family (q n t : ℕ) (xs : List ℕ) : Type 0 where
 pub record KeyOperands (p : Parameters) (a s : List ℕ) (e : List ℤ) : Type 0 where
   pub public : Family (p .q) (p .n) (p .t) a
   pub secret : Operand s
-  pub errors-length : length e ≡ p .t * (p .d + p .k)
+  pub errors-length : length e ≡ errorCount p
   pub errors-small : (k : ℕ) → k < length e → natAbs (getD e k (pos 0)) ≤ p .eta
 
 -- what sealing works on: multipliers small enough for a word, and message bits
 pub record SealingOperands (p : Parameters) (a b : List ℕ) (r : List ℤ) (m : List ℕ) : Type 0 where
   pub public : Family (p .q) (p .n) (p .t) a
   pub key : Family (p .q) (p .d + p .k) (p .t) b
-  pub multipliers-length : length r ≡ p .t * (p .k + 1)
+  pub multipliers-length : length r ≡ multiplierCount p
   pub multipliers-small : (i : ℕ) → i < length r → natAbs (getD r i (pos 0)) < 2 ^ 24
   pub message-length : length m ≡ p .d
   pub message-bits : Below 2 m

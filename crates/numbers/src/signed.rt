@@ -10,7 +10,8 @@ ghost use Rattle.calls.specs.Outcome.{outcome, accepted};
 ghost use Rattle.calls.specs.Checks.{passing, refuseFirst};
 ghost use Rattle.sets.specs.Rules.{Rules};
 ghost use Rattle.numbers.specs.Scheme as scheme;
-ghost use Rattle.numbers.specs.Calls.{isMultiplier, multiplierBound};
+ghost use Rattle.sets.specs.Derived.{multiplierBound};
+ghost use Rattle.numbers.specs.Calls.{isMultiplier};
 
 // Whether `z` has size at most `limit`.
 pub fn size_within(z: i32, limit: u32) -> bool
@@ -32,11 +33,7 @@ fn multiplier_bound(p: Parameters, position: usize) -> u32
     requires { ⌜ Rules p ⌝ }
     ensures { λ r. ⌜ r ≡ multiplierBound p position ⌝ }
 {
-    if position < p.ndec1 {
-        1 << p.b1
-    } else {
-        1 << p.b2
-    }
+    1 << sets::derived::multiplier_bits(p, position)
 }
 
 // Whether `z` is a multiplier at a position.

@@ -27,7 +27,7 @@ fn lengths_fit(p: Parameters, a: usize, s: usize, e: usize, b: usize) -> bool
     if s != p.n + p.d + p.k - 1 {
         return false;
     }
-    let count = counts::product(p.t, p.d + p.k);
+    let count = sets::derived::error_count(p);
     if e != count {
         return false;
     }

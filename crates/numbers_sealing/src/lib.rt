@@ -8,11 +8,10 @@ use sets::Parameters;
 ghost use mathlib.Core.Path.{_≡_};
 ghost use Prim.Native.Nat.{_<_, _≤_, _+_, _*_, _%_};
 ghost use lib.ListN.{length};
-ghost use Rattle.maths.specs.Vector.{at, tabulate};
+ghost use Rattle.maths.specs.Vector.{at, tabulate, Below};
 ghost use Rattle.calls.specs.Outcome.{outcome};
 ghost use Rattle.calls.specs.Checks.{allOf};
 ghost use Rattle.sets.specs.Derived.{halfModulus};
-ghost use Rattle.middle.specs.Operand.{Below};
 ghost use Rattle.sets.specs.Rules.{Rules};
 ghost use Rattle.numbers.specs.Operands.{Family, SealingOperands};
 ghost use Rattle.numbers.specs.Scheme.{sumOfProducts, firstPart, sumOfMiddles, secondPart};
@@ -26,10 +25,10 @@ fn lengths_fit(p: Parameters, a: usize, b: usize, r: usize, m: usize, c1: usize,
     if a != counts::product(p.t, p.n) {
         return false;
     }
-    if b != counts::product(p.t, p.d + p.k) {
+    if b != sets::derived::error_count(p) {
         return false;
     }
-    if r != counts::product(p.t, p.k + 1) {
+    if r != sets::derived::multiplier_count(p) {
         return false;
     }
     if m != p.d {

@@ -4,6 +4,8 @@ use libc::STDOUT_FILENO;
 ghost use Prim.Native.Nat.{ℕ, _+_, _*_, _<_, _≤_};
 ghost use lib.ListN.{length, getD};
 
+pub mod random;
+
 // Prints a text as it is.
 pub fn text(bytes: &[u8]) {
     io::write_all(STDOUT_FILENO, bytes);
@@ -163,11 +165,14 @@ pub fn at_most(x: usize, limit: usize) -> usize
     if limit < x { limit } else { x }
 }
 
-// A length, or one more or one less where it is the one to change: 1 and 2 are one more and one less of the first slice, 3 and 4 of the
-// second, and so on.
+// A length, or another where it is the one to change: 1 and 2 are one more and one less of the first slice, 3 and 4 of the second, and so on; 20 is
+// an empty first slice, 21 an empty second one, and so on.
 pub fn changed(length: usize, slice: usize, change: usize) -> usize {
     if change == 0 {
         return length;
+    }
+    if 20 <= change {
+        return if change - 20 == slice { 0 } else { length };
     }
     if (change - 1) / 2 != slice {
         return length;
@@ -186,8 +191,15 @@ pub fn call(name: &[u8], set: usize, change: usize) {
     number(change as u64);
 }
 
+// Prints the number of a round of random calls.
+pub fn round(i: usize) {
+    text(b"round");
+    number(i as u64);
+    end();
+}
+
 // The lowest eight bits of a number.
-fn low_byte(x: usize) -> u8 {
+pub fn low_byte(x: usize) -> u8 {
     (x % 256) as u8
 }
 

@@ -1,4 +1,5 @@
-// Runs the arithmetic layer: key, sealing and reading on numbers, the middle products, and the transforms.
+// Runs the arithmetic layer: key, sealing and reading on numbers, the middle products, the transforms, and random calls.
+mod damage;
 mod inputs;
 mod products;
 mod vectors;
@@ -8,4 +9,5 @@ fn main() {
     whole::run();
     products::run();
     vectors::run();
+    damage::rounds();
 }

@@ -5,7 +5,7 @@ use sets::Parameters;
 ghost use Prim.Native.Nat.{_≤_};
 
 // The numbers of a set; past the last set, those of set 0.
-fn parameters(set: usize) -> Parameters {
+pub fn parameters(set: usize) -> Parameters {
     if sets::LAST < set {
         return sets::parameters_of(0);
     }
@@ -13,7 +13,7 @@ fn parameters(set: usize) -> Parameters {
 }
 
 // Its largest transform, which is the length of the work slice.
-fn size_of(set: usize) -> usize
+pub fn size_of(set: usize) -> usize
     ensures { λ r. ⌜ r ≤ 3328 ⌝ }
 {
     let p = parameters(set);
@@ -39,7 +39,7 @@ fn plain_with_buffers(set: usize, a: &[u32], b: &[u32], out: &mut [u32], results
 }
 
 // The same into numbers of its own.
-fn plain(set: usize, a: &[u32], b: &[u32], results: usize) {
+pub fn plain(set: usize, a: &[u32], b: &[u32], results: usize) {
     let mut out = [7u32; 4097];
     plain_with_buffers(set, a, b, &mut out, results);
 }
@@ -73,7 +73,7 @@ fn multiply(
 }
 
 // The same into numbers of its own, and its line.
-fn transformed(set: usize, a: &[u32], b: &[u32], results: usize, lent: usize) {
+pub fn transformed(set: usize, a: &[u32], b: &[u32], results: usize, lent: usize) {
     let mut out = [7u32; 4097];
     let mut work = [7u32; 4097];
     let answer = multiply(set, a, b, &mut out, results, &mut work, lent);

@@ -42,7 +42,7 @@ const MODULI: [u32; 14] = [
 ];
 
 // Multipliers at the bound of so many bits, and above it.
-const AROUND: [[i32; 4]; 10] = [
+pub const AROUND: [[i32; 4]; 10] = [
     [1, -1, 2, -2],
     [2, -2, 3, -3],
     [4, -4, 5, -5],
@@ -56,22 +56,22 @@ const AROUND: [[i32; 4]; 10] = [
 ];
 
 // The numbers of one set by their names; `first` and `second` are multipliers around the two bounds.
-struct Row {
-    set: usize,
-    q: u32,
-    a: usize,
-    s: usize,
-    e: usize,
-    r: usize,
-    message: usize,
-    c1: usize,
-    position: usize,
-    first: [i32; 4],
-    second: [i32; 4],
+pub struct Row {
+    pub set: usize,
+    pub q: u32,
+    pub a: usize,
+    pub s: usize,
+    pub e: usize,
+    pub r: usize,
+    pub message: usize,
+    pub c1: usize,
+    pub position: usize,
+    pub first: [i32; 4],
+    pub second: [i32; 4],
 }
 
 // The row of a set.
-fn row_of(set: usize) -> Row {
+pub fn row_of(set: usize) -> Row {
     let at = report::at_most(set, 13);
     let numbers = SETS[at];
     let q = MODULI[at];
@@ -270,7 +270,7 @@ fn key_lengths(row: Row, change: usize) -> [usize; 4] {
 }
 
 // Key of these inputs, and its line.
-fn key_of(row: Row, change: usize, a: &[u32], s: &[u32], e: &[i32]) -> [u32; 10233] {
+pub fn key_of(row: Row, change: usize, a: &[u32], s: &[u32], e: &[i32]) -> [u32; 10233] {
     let mut b = [7u32; 10233];
     let lengths = key_lengths(row, change);
     let answer = key_with_buffers(row.set, lengths, a, s, e, &mut b);
@@ -333,7 +333,7 @@ fn seal(
 }
 
 // Prints the set and the lengths of a sealing, its answer, and the checksums of c1 and c2.
-fn sealing_line(set: usize, lengths: [usize; 6], answer: Answer, c1: &[u32], c2: &[u32]) {
+fn sealed_line(set: usize, lengths: [usize; 6], answer: Answer, c1: &[u32], c2: &[u32]) {
     call(
         b"sealing",
         set,
@@ -347,15 +347,29 @@ fn sealing_line(set: usize, lengths: [usize; 6], answer: Answer, c1: &[u32], c2:
     report::end();
 }
 
+// Sealing of these inputs with one length changed, and its line.
+pub fn sealing_line(
+    row: Row,
+    change: usize,
+    a: &[u32],
+    b: &[u32],
+    r: &[i32],
+    message: &[u32],
+    c1: &mut [u32],
+    c2: &mut [u32],
+) {
+    let lengths = sealing_lengths(row, change);
+    let answer = seal(row.set, lengths, a, b, r, message, c1, c2);
+    sealed_line(row.set, lengths, answer, c1, c2);
+}
+
 // Sealing with one length changed, or with a wrong number at the end of a (1) or of the message (9) or among the multipliers.
 fn sealing_of(row: Row, case: [usize; 2], b: &[u32], c1: &mut [u32], c2: &mut [u32]) {
     let wrong = case[1];
     let a = polynomials(row, last(row.a, wrong, 1));
     let r = multipliers(row, wrong);
     let message = message_bits(row.set, last(row.message, wrong, 9));
-    let lengths = sealing_lengths(row, case[0]);
-    let answer = seal(row.set, lengths, &a, b, &r, &message, c1, c2);
-    sealing_line(row.set, lengths, answer, c1, c2);
+    sealing_line(row, case[0], &a, b, &r, &message, c1, c2);
 }
 
 // The same, or with a wrong number at the end of b (2), into numbers of its own.
@@ -404,14 +418,19 @@ fn read(
     )
 }
 
-// Reading with one length changed or with a wrong number at the end of s (3).
-fn reading_of(row: Row, case: [usize; 2], c1: &[u32], c2: &[u32]) {
+// Reading of these inputs with one length changed, and its line.
+pub fn reading_line(row: Row, change: usize, c1: &[u32], c2: &[u32], s: &[u32]) {
     let mut bits = [7u32; 257];
-    let s = secret(row, last(row.s, case[1], 3));
-    let lengths = reading_lengths(row, case[0]);
-    let answer = read(row.set, lengths, c1, c2, &s, &mut bits);
+    let lengths = reading_lengths(row, change);
+    let answer = read(row.set, lengths, c1, c2, s, &mut bits);
     call(b"reading", row.set, lengths);
     left(answer, &bits);
+}
+
+// Reading with one length changed or with a wrong number at the end of s (3).
+fn reading_of(row: Row, case: [usize; 2], c1: &[u32], c2: &[u32]) {
+    let s = secret(row, last(row.s, case[1], 3));
+    reading_line(row, case[0], c1, c2, &s);
 }
 
 // The same, or with a wrong number at the end of c1 (1) or of c2 (2).

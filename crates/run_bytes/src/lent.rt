@@ -9,7 +9,7 @@ fn case(a: usize, b: usize, c: usize, d: usize) {
 }
 
 // A draw of residues: set, bytes lent, results wanted, and the first candidate that is set aside and how many are.
-fn residues_with_buffers(bytes: &[u8], out: &mut [u32], row: [usize; 5]) {
+pub fn residues_with_buffers(bytes: &[u8], out: &mut [u32], row: [usize; 5]) {
     let answer = lent_draws::residues(
         row[0],
         report::front(bytes, row[1]),
@@ -33,7 +33,7 @@ fn residues(row: [usize; 5]) {
 }
 
 // A draw of errors.
-fn errors_with_buffers(bytes: &[u8], out: &mut [i32], set: usize, lent: usize, wanted: usize) {
+pub fn errors_with_buffers(bytes: &[u8], out: &mut [i32], set: usize, lent: usize, wanted: usize) {
     let answer = lent_draws::errors(
         set,
         report::front(bytes, lent),
@@ -57,7 +57,7 @@ fn errors(set: usize, lent: usize, wanted: usize) {
 }
 
 // A draw of multipliers: set, bytes lent, first position and results wanted.
-fn multipliers_with_buffers(bytes: &[u8], out: &mut [i32], row: [usize; 4]) {
+pub fn multipliers_with_buffers(bytes: &[u8], out: &mut [i32], row: [usize; 4]) {
     let answer = lent_draws::multipliers(
         row[0],
         report::front(bytes, row[1]),
@@ -139,6 +139,14 @@ const POSITIONS: [[usize; 4]; 12] = [
     [11, 6144, 6144, 6912],
     [12, 8192, 8192, 9216],
 ];
+
+// The row of a set; set 0, which has none, has that of set 1, and a set past the last that of set 12.
+pub fn positions_of(set: usize) -> [usize; 4] {
+    if set == 0 {
+        return POSITIONS[0];
+    }
+    POSITIONS[report::at_most(set - 1, 11)]
+}
 
 // The position before another.
 fn before(position: usize) -> usize {

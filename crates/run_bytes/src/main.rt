@@ -1,4 +1,6 @@
-// Runs the bytes layer: SHAKE256 and KMAC, the draws over lent bytes, and the draws from a seed. Standard input holds the seeds of three known cases.
+// Runs the bytes layer: SHAKE256 and KMAC, the draws over lent bytes, the draws from a seed, and random calls. Standard input holds the seeds of three
+// known cases.
+mod damage;
 mod known;
 mod lent;
 mod seeded;
@@ -13,4 +15,5 @@ fn main() {
     sponges::run();
     lent::run();
     seeded::run();
+    damage::rounds();
 }

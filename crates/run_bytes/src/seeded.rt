@@ -118,7 +118,7 @@ pub fn errors_into(set: usize, seed: &[u8], counter: u32, out: &mut [u32])
     requires { ⌜ (length (now seed) ≤ 65536) × (length (now out) ≡ 10240) ⌝ }
 {
     let p = parameters(set);
-    let count = samplers::error_count(p);
+    let count = sets::derived::error_count(p);
     samplers::errors_from(p, seed, counter % 100000, &mut out[0..count]);
 }
 

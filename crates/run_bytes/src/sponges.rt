@@ -2,7 +2,7 @@
 use calls::Answer;
 
 // SHAKE256 of the first bytes of `x`; the checksum covers the bytes past the output too, which stay as they were.
-fn shake_with_buffers(x: &[u8], y: &mut [u8], input: usize, output: usize) {
+pub fn shake_with_buffers(x: &[u8], y: &mut [u8], input: usize, output: usize) {
     let answer = hashes::shake256(report::front(x, input), report::front_mut(y, output));
     report::text(b"shake256");
     report::number(input as u64);
@@ -33,7 +33,7 @@ fn kmac_line(lengths: [usize; 4], answer: Answer, y: &[u8]) {
 }
 
 // KMAC256 of the first bytes of `x`: lengths of key, input, customization and output.
-fn kmac_with_buffers(x: &[u8], y: &mut [u8], lengths: [usize; 4]) {
+pub fn kmac_with_buffers(x: &[u8], y: &mut [u8], lengths: [usize; 4]) {
     let answer = hashes::kmac256(
         report::front(x, lengths[0]),
         report::front(x, lengths[1]),
@@ -54,7 +54,7 @@ fn kmac(lengths: [usize; 4]) {
 }
 
 // KMACXOF256 of the first bytes of `x`.
-fn kmacxof_with_buffers(x: &[u8], y: &mut [u8], lengths: [usize; 4]) {
+pub fn kmacxof_with_buffers(x: &[u8], y: &mut [u8], lengths: [usize; 4]) {
     let answer = hashes::kmacxof256(
         report::front(x, lengths[0]),
         report::front(x, lengths[1]),

@@ -18,7 +18,7 @@ fn print_keys(is_exchange: bool, public: &[u8], secret: &[u8]) {
 }
 
 // Key; the outputs are filled with patterns before.
-fn key_line(
+pub fn key_line(
     is_exchange: bool,
     set: usize,
     change: usize,
@@ -55,7 +55,7 @@ fn name(is_exchange: bool, exchanged: &[u8], encrypted: &[u8], set: usize, chang
 }
 
 // Encrypt or encapsulate; the outputs are filled with patterns before.
-fn seal_line(
+pub fn seal_line(
     is_exchange: bool,
     set: usize,
     change: usize,
@@ -83,7 +83,7 @@ fn seal_line(
 }
 
 // Decrypt or decapsulate; the output is filled with a pattern before.
-fn open_line(is_exchange: bool, set: usize, change: usize, secret: &[u8], sealed: &[u8]) {
+pub fn open_line(is_exchange: bool, set: usize, change: usize, secret: &[u8], sealed: &[u8]) {
     let mut shared = [0u8; 33];
     let mut work = [7u32; 25081];
     report::fill_bytes(&mut shared, if is_exchange { 5 } else { 4 });

@@ -52,13 +52,14 @@ fn print_sealed(is_exchange: bool, sealed: &[u8]) {
 fn print_opened(name: &[u8], set: usize, secret: &[u8], sealed: &[u8]) {
     let mut shared = [0u8; 32];
     let mut work = [0u32; 25080];
-    schemes::open(6 < set, set, 0, secret, sealed, &mut shared, &mut work);
+    let is_exchange = sets::derived::is_exchange(set);
+    schemes::open(is_exchange, set, 0, secret, sealed, &mut shared, &mut work);
     line(name, &shared);
 }
 
 // Opens a ciphertext; in the key exchange also with its lowest bit changed.
 fn open_twice(set: usize, secret: &[u8], sealed: &mut [u8]) {
-    if set <= 6 {
+    if sets::derived::is_encryption(set) {
         print_opened(b"message", set, secret, sealed);
         return;
     }
@@ -75,9 +76,10 @@ fn open_twice(set: usize, secret: &[u8], sealed: &mut [u8]) {
 // Makes the keys of a case and prints them.
 fn make_keys(set: usize, inputs: &[u8], public: &mut [u8], secret: &mut [u8]) {
     let mut work = [0u32; 25080];
-    schemes::key(6 < set, set, 0, inputs, public, secret, &mut work);
+    let is_exchange = sets::derived::is_exchange(set);
+    schemes::key(is_exchange, set, 0, inputs, public, secret, &mut work);
     print_keys(
-        6 < set,
+        is_exchange,
         report::front(public, schemes::entry(set, 0)),
         report::front(secret, schemes::entry(set, 1)),
     );
@@ -87,8 +89,9 @@ fn make_keys(set: usize, inputs: &[u8], public: &mut [u8], secret: &mut [u8]) {
 fn seal(set: usize, inputs: &[u8], public: &[u8], sealed: &mut [u8]) {
     let mut shared = [0u8; 32];
     let mut work = [0u32; 25080];
+    let is_exchange = sets::derived::is_exchange(set);
     schemes::seal(
-        6 < set,
+        is_exchange,
         set,
         0,
         inputs,
@@ -97,7 +100,7 @@ fn seal(set: usize, inputs: &[u8], public: &[u8], sealed: &mut [u8]) {
         &mut shared,
         &mut work,
     );
-    print_sealed(6 < set, report::front(sealed, schemes::entry(set, 2)));
+    print_sealed(is_exchange, report::front(sealed, schemes::entry(set, 2)));
 }
 
 // A byte as the number of a set.
@@ -109,7 +112,7 @@ fn set_of(byte: u8) -> usize {
 fn print_unpacked(set: usize, inputs: &[u8], public: &[u8]) {
     let mut numbers = [0u32; 256];
     let mut work = [0u32; 25080];
-    if 6 < set {
+    if sets::derived::is_exchange(set) {
         return;
     }
     unpacked::write(
@@ -129,7 +132,7 @@ fn print_unpacked(set: usize, inputs: &[u8], public: &[u8]) {
 // The sheet of a case of the encryption scheme.
 fn print_noise(set: usize, case: &[u8]) {
     let mut work = [0u32; 22521];
-    if set <= 6 {
+    if sets::derived::is_encryption(set) {
         sheets::print_sheet(case, &mut work);
     }
 }

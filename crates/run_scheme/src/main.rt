@@ -1,5 +1,7 @@
-// Runs the encryption scheme, the key exchange and the noise sheet. Standard input holds six known cases, 24 of the ties and the inputs of the sheets.
+// Runs the encryption scheme, the key exchange and the noise sheet, and random calls of them. Standard input holds six known cases, 24 of the ties and the
+// inputs of the sheets.
 mod cases;
+mod damage;
 mod known;
 mod schemes;
 mod sheets;
@@ -44,4 +46,5 @@ fn main() {
     let mut input = io::large_buffer();
     let end = io::read_full(STDIN_FILENO, &mut input);
     run(report::front(&input, end));
+    damage::rounds();
 }

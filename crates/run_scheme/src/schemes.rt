@@ -26,7 +26,7 @@ pub fn entry(set: usize, column: usize) -> usize {
     row[report::at_most(column, 4)]
 }
 
-// The front of a slice, as long as a set has it; `change` tells whether slice number `slice` of the call is one longer or shorter.
+// The front of a slice, as long as a set has it; `change` tells whether slice number `slice` of the call is one longer or shorter, or empty.
 fn cut(bytes: &[u8], set: usize, column: usize, slice: usize, change: usize) -> &[u8] {
     report::front(bytes, report::changed(entry(set, column), slice, change))
 }

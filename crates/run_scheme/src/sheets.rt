@@ -41,11 +41,10 @@ fn print_sheets(inputs: &[u8], work: &mut [u32]) {
 // 01's Bench input.
 const BENCH: [u8; 14] = [0, 3, 5, 1, 2, 3, 4, 1, 0, 255, 1, 254, 1, 0];
 
-// The Bench sheet in slices of these lengths; the checksums cover what lies behind them too.
-fn lent_with_buffers(lengths: [usize; 2], text: &mut [u8], work: &mut [u32]) {
-    let input = BENCH;
+// The sheet of an input in slices of these lengths; the checksums cover what lies behind them too.
+fn lent_with_buffers(input: &[u8], lengths: [usize; 2], text: &mut [u8], work: &mut [u32]) {
     let written = sheet::sheet(
-        &input,
+        input,
         report::front_mut(text, lengths[0]),
         report::numbers_mut(work, 0, lengths[1]),
     );
@@ -59,10 +58,11 @@ fn lent_with_buffers(lengths: [usize; 2], text: &mut [u8], work: &mut [u32]) {
 }
 
 // The same with the length of the text or of the work slice changed.
-fn lent(change: usize) {
+pub fn lent(input: &[u8], change: usize) {
     let mut text = [7u8; 1025];
     let mut work = [7u32; 22522];
     lent_with_buffers(
+        input,
         [
             report::changed(1024, 0, change),
             report::changed(22521, 1, change),
@@ -72,11 +72,17 @@ fn lent(change: usize) {
     );
 }
 
+// The same of the Bench sheet.
+fn bench_lent(change: usize) {
+    let input = BENCH;
+    lent(&input, change);
+}
+
 // Each of these lengths.
 fn all_lent() {
     let mut change: usize = 0;
     while change < 5 {
-        lent(change);
+        bench_lent(change);
         change += 1;
     }
 }

@@ -1,5 +1,5 @@
 // The ties of the rounding, 2w = h and 2w = 3h, read from ciphertexts: by decrypt for sets 1 to 6, by the step of decapsulation that reads for sets 7 to 12,
-// whose own answer shows nothing of what is read but whether it is sealed again to the same ciphertext.
+// whose own answer shows nothing of what is read but whether it is encrypted again to the same ciphertext.
 use crate::schemes;
 use calls::Answer;
 
@@ -19,7 +19,11 @@ fn repeat(bytes: &mut [u8], others: &[u8]) {
 // How many bytes of a ciphertext come before c2: it takes 256, and 32 follow it in the key exchange.
 fn first_part(set: usize) -> usize {
     let all = schemes::entry(set, 2);
-    let behind = if set < 7 { 256 } else { 288 };
+    let behind = if sets::derived::is_exchange(set) {
+        288
+    } else {
+        256
+    };
     if all < behind { 0 } else { all - behind }
 }
 
@@ -50,7 +54,7 @@ fn read(set: usize, seed: &[u8], sealed: &[u8], message: &mut [u8], work: &mut [
 // Reads such a ciphertext by decrypt where the set has it.
 fn open(set: usize, seed: &[u8], sealed: &[u8], message: &mut [u8]) -> Answer {
     let mut work = [0u32; 25080];
-    if set < 7 {
+    if sets::derived::is_encryption(set) {
         return schemes::open(false, set, 0, seed, sealed, message, &mut work);
     }
     read(

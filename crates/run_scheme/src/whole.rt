@@ -151,14 +151,27 @@ fn call_line(
     );
 }
 
-// Line number i: 17 lines for each set of a scheme. The outputs are filled with patterns before.
-pub fn line(is_exchange: bool, i: usize, public: &mut [u8], secret: &mut [u8], sealed: &mut [u8]) {
-    let mut inputs = [0u8; 97];
-    schemes::fill_inputs(&mut inputs, 0);
+// One call; the outputs are filled with patterns before.
+pub fn filled_line(
+    is_exchange: bool,
+    set: usize,
+    change: usize,
+    inputs: &[u8],
+    public: &mut [u8],
+    secret: &mut [u8],
+    sealed: &mut [u8],
+) {
     report::fill_bytes(public, 1);
     report::fill_bytes(secret, 2);
     report::fill_bytes(sealed, 3);
-    call_line(
+    call_line(is_exchange, set, change, inputs, public, secret, sealed);
+}
+
+// Line number i: 17 lines for each set of a scheme.
+pub fn line(is_exchange: bool, i: usize, public: &mut [u8], secret: &mut [u8], sealed: &mut [u8]) {
+    let mut inputs = [0u8; 97];
+    schemes::fill_inputs(&mut inputs, 0);
+    filled_line(
         is_exchange,
         i / 17,
         16 - i % 17,

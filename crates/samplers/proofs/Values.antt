@@ -12,12 +12,13 @@ use Rattle.maths.specs.Integer.{residue}
 use Rattle.calls.proofs.Filled.{Filled, filled-none, filled-more}
 use Rattle.sets.specs.declared.Parameters.{Parameters}
 use Rattle.sets.specs.Rules.{Rules}
-use Rattle.sets.specs.Derived.{multiplierCount, multiplierDrawBytes, errorDrawBytes}
-use Rattle.draws.specs.Small.{errorAt, multiplierBits, multiplierAt}
+use Rattle.sets.specs.Derived.{multiplierCount, multiplierDrawBytes, errorDrawBytes, errorCount, multiplierBits}
+use Rattle.draws.specs.Small.{errorAt, multiplierAt}
 use Rattle.draws.proofs.Bits.{error-most, multiplier-size, power-most}
-use Rattle.draws.proofs.Positions.{bits-most, turn-length, turn-at}
+use Rattle.sets.proofs.Counts.{bits-most}
+use Rattle.draws.proofs.Positions.{turn-length, turn-at}
 use Rattle.byte_source.specs.Source.{State, initial, output}
-use Rattle.samplers.specs.Seeded.{errorCount, errorByte, errorsOf, errorsDrawn, multipliersOf, multipliersDrawn}
+use Rattle.samplers.specs.Seeded.{errorByte, errorsOf, errorsDrawn, multipliersOf, multipliersDrawn}
 
 -- a place in rows of some numbers lies in a row of one byte more
 row-below : (place row rows : ℕ) → 0 < row → place < rows * row → place / row * (row + 1) + place % row < rows * (row + 1)

@@ -6,7 +6,7 @@ use Prim.Native.Nat.{ℕ, zero, suc, _+_, _*_, _/_, _%_}
 use lib.IntN.{ℤ}
 use Rattle.sets.specs.declared.Parameters.{Parameters}
 use Rattle.sets.specs.Table.{table, setOf}
-use Rattle.sets.specs.Derived.{multiplierCount, multiplierDrawBytes, errorDrawBytes}
+use Rattle.sets.specs.Derived.{multiplierCount, multiplierDrawBytes, errorCount, errorDrawBytes}
 use Rattle.draws.specs.Uniform.{Drawn}
 use Rattle.draws.specs.Small.{errorAt, multiplierAt}
 use Rattle.draws.specs.Calls.{inTurn}
@@ -31,10 +31,6 @@ publicState p seed (suc i) = uniform p (publicState p seed i) (p .bytpca) (p .n)
 -- its n numbers
 unfoldable pub publicDrawn : Parameters → List ℕ → ℕ → Drawn
 publicDrawn p seed i = uniform p (publicState p seed i) (p .bytpca) (p .n) .drawn
-
--- how many errors one key has: d + k for each of t polynomials
-unfoldable pub errorCount : Parameters → ℕ
-errorCount p = p .t * (p .d + p .k)
 
 -- place i·(d + k) + j takes byte i·(d + k + 1) + j: of a polynomial's d + k + 1 bytes the last is not used
 unfoldable pub errorByte : Parameters → ℕ → ℕ

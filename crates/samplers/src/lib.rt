@@ -6,11 +6,11 @@ ghost use Prim.Native.Nat.{ℕ, _+_, _*_, _^_, _≤_, _<_};
 ghost use lib.ListN.{length};
 ghost use Rattle.maths.specs.Integer.{residue};
 ghost use Rattle.sets.specs.Rules.{Rules, ByteRules};
-ghost use Rattle.sets.specs.Derived.{multiplierCount, errorDrawBytes};
+ghost use Rattle.sets.specs.Derived.{multiplierCount, errorDrawBytes, errorCount};
 ghost use Rattle.draws.specs.Uniform.{taken};
 ghost use Rattle.byte_source.specs.Source.{stateAt};
 ghost use Rattle.samplers.specs.Blocks.{onward, refusedBy, uniform, uniformAnswer};
-ghost use Rattle.samplers.specs.Seeded.{errorCount, errorsDrawn, multipliersDrawn};
+ghost use Rattle.samplers.specs.Seeded.{errorsDrawn, multipliersDrawn};
 
 pub mod block;
 mod small;
@@ -54,14 +54,6 @@ pub fn residues_from(
 {
     let mut bytes = [0u8; 10158];
     block::residues_with_buffers(p, seed, first, &mut bytes[0..size], out)
-}
-
-// How many errors one key has.
-pub fn error_count(p: Parameters) -> usize
-    requires { ⌜ Rules p ⌝ }
-    ensures { λ r. ⌜ (r ≡ errorCount p) × (r ≤ 12790) ⌝ }
-{
-    p.t * (p.d + p.k)
 }
 
 // Draws all errors of one key, as residues, from the output of a counter.

@@ -6,10 +6,10 @@ ghost use Prim.Native.Nat.{_+_, _^_, _≤_, _<_};
 ghost use lib.ListN.{length};
 ghost use Rattle.maths.specs.Integer.{residue};
 ghost use Rattle.sets.specs.Rules.{Rules, ByteRules};
-ghost use Rattle.sets.specs.Derived.{multiplierCount, multiplierDrawBytes, errorDrawBytes};
+ghost use Rattle.sets.specs.Derived.{multiplierCount, multiplierDrawBytes, errorDrawBytes, errorCount};
 ghost use Rattle.draws.specs.Small.{errorAt, multiplierAt};
 ghost use Rattle.byte_source.specs.Source.{stateAt};
-ghost use Rattle.samplers.specs.Seeded.{errorCount, errorByte, errorsOf, errorsDrawn, multipliersOf, multipliersDrawn};
+ghost use Rattle.samplers.specs.Seeded.{errorByte, errorsOf, errorsDrawn, multipliersOf, multipliersDrawn};
 
 // The bytes that all errors of one key are drawn from.
 pub fn error_draw_bytes(p: Parameters) -> usize

@@ -4,19 +4,28 @@ use mathlib.Core.Path.{_≡_, refl, _∙_}
 use mathlib.Core.Bool.{Bool, true, false, not}
 use mathlib.Core.List.{List}
 use Prim.Native.Nat.{ℕ, _≤_, _<_}
+use native.Mathlib.Omega.{arith}
 use borrow.Author.Tests.{lt-ltb, le-ltb, ltb-false, eqb-true, not-false}
 use lib.Dec.{ltb}
 use lib.ListN.{length, replicate}
 use Rattle.calls.specs.Outcome.{Outcome, accepted, refused, refuse, andThen}
-use Rattle.calls.specs.Checks.{allOf}
+use Rattle.maths.specs.Vector.{at}
+use Rattle.calls.specs.Checks.{allOf, passing, below}
 use Rattle.calls.proofs.Outcome.{accepted-refused, refuse-accepted}
-use Rattle.calls.proofs.Checks.{Each, allOf-each, each-allOf}
+use Rattle.calls.proofs.Checks.{Each, allOf-each, each-allOf, passing-all}
 use Rattle.sets.specs.declared.Parameters.{Parameters}
 use Rattle.sets.specs.Table.{setOf, lastSet, noSet}
 use Rattle.sets.specs.Derived.{isEncryption, isExchange, publicKeyBytes, secretKeyBytes, ciphertextBytes}
 use Rattle.scheme.specs.Encryption.{cipherFirst}
-use Rattle.scheme.specs.Answers.{refuseSet, checks, workLeft, workLength, allBelow, secretDraw, decryptDraws}
+use Rattle.scheme.specs.Answers.{refuseSet, checks, workLeft, workLength, onlyResidues, secretDraw, decryptDraws}
 use Rattle.scheme.specs.Answers.{keyChecks, encryptChecks, encapsulateChecks, decryptChecks}
+
+-- numbers that are below q at every place pass the test
+pub all-below : (q : ℕ) (xs : List ℕ) → ((j : ℕ) → at xs j < q) → onlyResidues q xs ≡ true
+unfolding onlyResidues
+all-below q xs each =
+    let all : passing (below q) 0 xs ≡ length xs = passing-all (below q) 0 xs 0 .1 (λ k h. lt-ltb (at xs k) q (each k)) in
+    rw (le-ltb (passing (below q) 0 xs) (length xs) (omega arith))
 
 module _ (isOwn : ℕ → Bool) (set : ℕ) (after : Outcome) where
   -- set 0 is no set of the scheme
@@ -131,11 +140,11 @@ module _ {checked : Outcome} (draws : Outcome) (work : List ℕ) where
 
 module _ (p : Parameters) (sk ct : List ℕ) where
   -- a number of c1 is too large
-  pub reading-refused : allBelow (p .q) (cipherFirst p ct) ≡ false → decryptDraws p sk ct ≡ refused 3 0
+  pub reading-refused : onlyResidues (p .q) (cipherFirst p ct) ≡ false → decryptDraws p sk ct ≡ refused 3 0
   unfolding decryptDraws
   reading-refused e = rw e
 
   -- none is
-  pub reading-passed : allBelow (p .q) (cipherFirst p ct) ≡ true → decryptDraws p sk ct ≡ secretDraw p sk
+  pub reading-passed : onlyResidues (p .q) (cipherFirst p ct) ≡ true → decryptDraws p sk ct ≡ secretDraw p sk
   unfolding decryptDraws
   reading-passed e = rw e

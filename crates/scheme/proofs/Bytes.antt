@@ -67,7 +67,7 @@ publicSeed-length p seed = output-length p (output p (initial seed) 32 .next) 32
 module _ {p : Parameters} (c : Conditions p) where
   -- residues have width bits
   residues-digit : (xs : List ℕ) → ((j : ℕ) → at xs j < p .q) → Digit (p .width) xs
-  residues-digit xs below j = omega (arith, below j, c .width-enough)
+  residues-digit xs below j = omega (arith, below j, c .rules .width-enough)
 
   -- a vector as it is stored holds residues
   send-below : (i w : ℕ) (xs : List ℕ) (j : ℕ) → at (send (p .q) (p .row) (rowCount p i) w xs) j < p .q
@@ -139,7 +139,7 @@ module _ {p : Parameters} (c : Conditions p) where
     unfolding keyPolynomial
     keyPolynomial-back i h =
         ap (recoveredInverse p 1 (p .d + p .k)) (keyVector-back i h)
-        ∙ recoveredInverse-sentInverse (p .d + p .k) _ (publicVector-length p (secretSeed p seed) (publicSeed p seed) i) (c .holds1)
+        ∙ recoveredInverse-sentInverse (p .d + p .k) _ (publicVector-length p (secretSeed p seed) (publicSeed p seed) i) (c .rules .holds1)
         (λ j l. rw (publicVector-at p (secretSeed p seed) (publicSeed p seed) i j l) (mod-lt _ (positive c)))
 
   module _ (pk message seedr : List ℕ) where
@@ -169,7 +169,7 @@ module _ {p : Parameters} (c : Conditions p) where
         ≡ firstNumbers p (multiplierVector p seedr) (publicPolynomial p (keySeed pk))
     firstNumbers-back =
         ap (recovered p 2 (p .n + p .k)) cipherFirst-back
-        ∙ recovered-sent (p .n + p .k) _ (firstNumbers-length p _ _) (c .holds2) (λ j l. rw (firstNumbers-at p _ _ j l) (mod-lt _ (positive c)))
+        ∙ recovered-sent (p .n + p .k) _ (firstNumbers-length p _ _) (c .rules .holds2) (λ j l. rw (firstNumbers-at p _ _ j l) (mod-lt _ (positive c)))
 
     -- number j of c2' is a residue
     pub encryptedNumbers-below : (j : ℕ) → at (encryptedNumbers p pk message seedr) j < p .q
@@ -183,8 +183,8 @@ module _ {p : Parameters} (c : Conditions p) where
     cipherSecond-back =
         ap (unpackDropped (p .width) (p .cmp) (p .d))
         (drop-at (pack (p .width) (packedBytes (p .d2) (p .width)) _) _ (packedBytes (p .d2) (p .width)) (pack-length (p .width) _ _))
-        ∙ unpack-dropped (p .width) (p .cmp) (p .d) (encryptedNumbers p pk message seedr) (encryptedNumbers-length p pk message seedr) (c .kept)
-        (residues-digit (encryptedNumbers p pk message seedr) encryptedNumbers-below)
+        ∙ unpack-dropped (p .width) (p .cmp) (p .d) (encryptedNumbers p pk message seedr) (encryptedNumbers-length p pk message seedr)
+        (omega (arith, c .rules .kept)) (residues-digit (encryptedNumbers p pk message seedr) encryptedNumbers-below)
 
     -- number j of c2
     pub cipherSecond-at : (j : ℕ) → j < p .d

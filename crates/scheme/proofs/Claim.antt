@@ -41,12 +41,12 @@ module _ {p : Parameters} (c : Conditions p) where
       let bits : List ℕ = decryptedBits p seedsk ct in
       let size : length bits ≡ p .d = decryptedBits-length p seedsk ct in
       ap (λ (n : ℕ). messageBits n (messageBytes 32 bits)) (sym size)
-      ∙ messageBits-messageBytes 32 bits (decryptedBits-below p seedsk ct) (omega (arith, c .message-bits))
+      ∙ messageBits-messageBytes 32 bits (decryptedBits-below p seedsk ct) (omega (arith, c .bytes .message-bits))
 
   -- a message of 32 bytes comes back from its bits
   bits-back : (message : List ℕ) → length message ≡ 32 → Digit 8 message → messageBytes 32 (messageBits (p .d) message) ≡ message
   bits-back message size bytes =
-      let count : p .d ≡ 8 * length message = omega (arith, c .message-bits) in
+      let count : p .d ≡ 8 * length message = omega (arith, c .bytes .message-bits) in
       ap (λ (n : ℕ). messageBytes n (messageBits (p .d) message)) (sym size)
       ∙ ap (λ (n : ℕ). messageBytes (length message) (messageBits n message)) count
       ∙ messageBytes-messageBits message bytes
@@ -82,8 +82,8 @@ module _ {p : Parameters} (c : Conditions p) where
         → BitClaim (halfModulus p) (noise p seed message seedr j) (messageBit p message j) (messageBit p (messageRead p seed message seedr) j)
     claim j inside =
         rw (bit-rounds j inside)
-        (centredBit-claim (halfModulus p) (p .q) (messageBit p message j) _ (noise p seed message seedr j) (c .odd) (messageBit-bit p message j)
-        (opened-noisy j inside) (halfModulus p / 2) (c .even-half))
+        (centredBit-claim (halfModulus p) (p .q) (messageBit p message j) _ (noise p seed message seedr j) (c .rules .odd) (messageBit-bit p message j)
+        (opened-noisy j inside) (halfModulus p / 2) (c .bytes .even-half))
 
     -- a message of 32 bytes comes back whole where twice the size of the noise is below h at every place
     pub returned : length message ≡ 32 → Digit 8 message → ((j : ℕ) → j < p .d → 2 * natAbs (noise p seed message seedr j) < halfModulus p)

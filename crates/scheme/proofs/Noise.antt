@@ -139,7 +139,8 @@ module _ {p : Parameters} (c : Conditions p) (seed message seedr : List ℕ) (j 
       let ct : List ℕ = ciphertext p pk message seedr in
       cancelled (p .q) _ _ _ _ _ _ _ _
       (rw (firstNumbers-back c pk message seedr, keySeed-back c seed) at (decryptedNumber-mod p (secretSeed p seed) ct j (positive c)))
-      (droppedNoise-residue p (cipherSecond p ct) (encryptedNumbers p pk message seedr) j (c .odd) (omega (arith, encryptedNumbers-below c pk message seedr j)))
+      (droppedNoise-residue p (cipherSecond p ct) (encryptedNumbers p pk message seedr) j (c .rules .odd)
+      (omega (arith, encryptedNumbers-below c pk message seedr j)))
       sealed-sums noise-parts
 
   -- the part of the bits dropped is minus those bits, which are the low cmp bits of c2'
@@ -149,5 +150,5 @@ module _ {p : Parameters} (c : Conditions p) (seed message seedr : List ℕ) (j 
   droppedNoise-bits few =
       let pk : List ℕ = publicKey p seed in
       let x : ℕ = at (encryptedNumbers p pk message seedr) j in
-      dropped-noise p _ _ j (x % 2 ^ p .cmp) (c .odd) (omega (arith, dropped-below (p .cmp) x)) (encryptedNumbers-below c pk message seedr j)
+      dropped-noise p _ _ j (x % 2 ^ p .cmp) (c .rules .odd) (omega (arith, dropped-below (p .cmp) x)) (encryptedNumbers-below c pk message seedr j)
       (rw (cipherSecond-at c pk message seedr j inside) (chop-dropped (p .cmp) x))

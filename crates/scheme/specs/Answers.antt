@@ -9,9 +9,9 @@ use Rattle.calls.specs.Outcome.{Outcome, accepted, refuse, leaves, andThen}
 use Rattle.calls.specs.Checks.{allOf, passing, below}
 use Rattle.sets.specs.declared.Parameters.{Parameters}
 use Rattle.sets.specs.Table.{setOf, noSet}
-use Rattle.sets.specs.Derived.{isEncryption, isExchange, publicKeyBytes, secretKeyBytes, ciphertextBytes}
+use Rattle.sets.specs.Derived.{isEncryption, isExchange, publicKeyBytes, secretKeyBytes, ciphertextBytes, errorCount}
 use Rattle.draws.specs.Uniform.{Drawn, taken, ended, exhausted}
-use Rattle.samplers.specs.Seeded.{errorCount, secretDrawn, publicDrawn}
+use Rattle.samplers.specs.Seeded.{secretDrawn, publicDrawn}
 use Rattle.scheme.specs.Encryption.{secretSeed, publicSeed, publicKey, keySeed, keyNumbers, ciphertext, cipherFirst, decryptedMessage}
 use Rattle.scheme.specs.Exchange.{innerSeed, exchangePublicKey, exchangeSecretKey, encapsulated, sharedKey, decapsulated}
 
@@ -44,8 +44,8 @@ allTaken zero draw = true
 allTaken (suc t) draw = allTaken t draw && isTaken (draw t)
 
 -- no number of q or more
-unfoldable pub allBelow : ℕ → List ℕ → Bool
-allBelow q xs = not (ltb (passing (below q) 0 xs) (length xs))
+unfoldable pub onlyResidues : ℕ → List ℕ → Bool
+onlyResidues q xs = not (ltb (passing (below q) 0 xs) (length xs))
 
 -- 5 when a draw of a key is refused
 unfoldable pub keyDraws : Parameters → List ℕ → Outcome
@@ -56,7 +56,7 @@ keyDraws p seed =
 -- 3 when a number of the public key is q or more, then 5 when a draw from its seed is refused
 unfoldable pub encryptDraws : Parameters → List ℕ → Outcome
 encryptDraws p pk =
-    refuse (not (allBelow (p .q) (keyNumbers p pk))) 3 0
+    refuse (not (onlyResidues (p .q) (keyNumbers p pk))) 3 0
     (refuse (not (allTaken (p .t) (publicDrawn p (keySeed pk)))) 5 0 accepted)
 
 -- 5 when the draw of the secret is refused
@@ -65,13 +65,13 @@ secretDraw p sk = refuse (not (isTaken (secretDrawn p sk))) 5 0 accepted
 
 -- 3 when a number of c1 is q or more, then what the draw of the secret answers
 unfoldable pub decryptDraws : Parameters → List ℕ → List ℕ → Outcome
-decryptDraws p sk ct = refuse (not (allBelow (p .q) (cipherFirst p ct))) 3 0 (secretDraw p sk)
+decryptDraws p sk ct = refuse (not (onlyResidues (p .q) (cipherFirst p ct))) 3 0 (secretDraw p sk)
 
--- 3 when a number of the public key inside a secret key of the key exchange is q or more, 5 when the draw of the secret is refused, then what sealing
--- again answers
+-- 3 when a number of the public key inside a secret key of the key exchange is q or more, 5 when the draw of the secret is refused, then what
+-- encrypting again answers
 unfoldable pub decapsulateDraws : Parameters → List ℕ → Outcome
 decapsulateDraws p sk =
-    refuse (not (allBelow (p .q) (keyNumbers p (drop 32 sk)))) 3 0
+    refuse (not (onlyResidues (p .q) (keyNumbers p (drop 32 sk)))) 3 0
     (refuse (not (isTaken (secretDrawn p (secretSeed p (innerSeed p (take 32 sk)))))) 5 0 (encryptDraws p (drop 32 sk)))
 
 -- the checks of key, by the lengths of seed, public key, secret key and work slice

@@ -55,11 +55,11 @@ same [] (y ∷ ys) = false
 same (x ∷ xs) [] = false
 same (x ∷ xs) (y ∷ ys) = eqb x y && same xs ys
 
--- algorithm 31, lines 2 to 8: what is read with a secret key before it is sealed again
+-- algorithm 31, lines 2 to 8: what is read with a secret key before it is encrypted again
 unfoldable pub decapsulatedMessage : Parameters → List ℕ → List ℕ → List ℕ
 decapsulatedMessage p sk ct = decryptedMessage p (secretSeed p (innerSeed p (take 32 sk))) (take (cpaCiphertextBytes p) ct)
 
--- lines 9 to 15: what is hashed into the shared key, the message read where sealing it again gives the ciphertext, else the reject bytes
+-- lines 9 to 15: what is hashed into the shared key, the message read where encrypting it again gives the ciphertext, else the reject bytes
 unfoldable pub hashedSecret : Parameters → List ℕ → List ℕ → List ℕ
 hashedSecret p sk ct =
     let message = decapsulatedMessage p sk ct in

@@ -9,5 +9,5 @@ pub fn work_length(p: Parameters) -> usize
     requires { ⌜ Rules p ⌝ }
     ensures { λ r. ⌜ r ≡ workLength p ⌝ }
 {
-    p.d3 + p.d1 + samplers::error_count(p) + p.t * p.d1
+    p.d3 + p.d1 + sets::derived::error_count(p) + p.t * p.d1
 }

@@ -3,3 +3,4 @@ pub mod Rules
 pub mod Lengths
 pub mod Transforms
 pub mod Schemes
+pub mod Counts

@@ -3,8 +3,8 @@
 use mathlib.Core.Path.{_≡_, refl}
 use mathlib.Core.Bool.{Bool, cond}
 use mathlib.Core.List.{List, [], _∷_, map}
-use Prim.Native.Nat.{ℕ, _+_, _-_, _*_, _/_, max}
-use lib.Dec.{eqb}
+use Prim.Native.Nat.{ℕ, _+_, _-_, _*_, _/_, _^_, max}
+use lib.Dec.{ltb, eqb}
 use Rattle.maths.specs.Root.{powerTable}
 use Rattle.sets.specs.declared.Parameters.{Parameters}
 use Rattle.sets.specs.Table.{none, table, setOf}
@@ -28,6 +28,14 @@ rootPowers p i = powerTable (p .q) (transformRoot p i) (transformSize p i)
 unfoldable pub multiplierCount : Parameters → ℕ
 multiplierCount p = p .t * (p .k + 1)
 
+-- sizes of multipliers are drawn from b1 bits at the first N_dec1 positions, and from b2 bits at the others (algorithm 10)
+unfoldable pub multiplierBits : Parameters → ℕ → ℕ
+multiplierBits p position = cond (ltb position (p .ndec1)) (p .b1) (p .b2)
+
+-- the largest size B/2 of a multiplier at a position
+unfoldable pub multiplierBound : Parameters → ℕ → ℕ
+multiplierBound p position = 2 ^ multiplierBits p position
+
 -- Zbbytes: the bytes that the size of one multiplier is drawn from (algorithm 10)
 unfoldable pub multiplierBytes : Parameters → ℕ
 multiplierBytes p = (max (p .b1) (p .b2) + 7) / 8
@@ -35,6 +43,10 @@ multiplierBytes p = (max (p .b1) (p .b2) + 7) / 8
 -- the bytes that all multipliers of one sealing are drawn from: sizes, then one sign bit each (algorithm 10)
 unfoldable pub multiplierDrawBytes : Parameters → ℕ
 multiplierDrawBytes p = multiplierCount p * multiplierBytes p + multiplierCount p / 8
+
+-- how many errors one key has: d + k for each of t polynomials
+unfoldable pub errorCount : Parameters → ℕ
+errorCount p = p .t * (p .d + p .k)
 
 -- the bytes that all errors of one key are drawn from (algorithm 9)
 unfoldable pub errorDrawBytes : Parameters → ℕ
@@ -95,3 +107,8 @@ published =
 lengths-published : map lengths (1 ∷ 2 ∷ 3 ∷ 4 ∷ 5 ∷ 6 ∷ 7 ∷ 8 ∷ 9 ∷ 10 ∷ 11 ∷ 12 ∷ []) ≡ published
 unfolding none table setOf packedBytes publicKeyBytes cpaCiphertextBytes isExchange secretKeyBytes ciphertextBytes lengths published
 lengths-published = refl
+
+-- set 1 has 2,560 positions, the first 1,488 of them with 7 bits
+multiplierBits-example : map (multiplierBits (setOf 1)) (1487 ∷ 1488 ∷ []) ≡ 7 ∷ 8 ∷ []
+unfolding table setOf multiplierBits
+multiplierBits-example = refl

@@ -4,8 +4,8 @@ ghost use mathlib.Core.Path.{_≡_};
 ghost use Prim.Native.Nat.{_*_, _<_, _≤_, _^_};
 ghost use Rattle.sets.specs.Table.{setOf, IsSet};
 ghost use Rattle.sets.specs.Rules.{Rules};
-ghost use Rattle.sets.specs.Derived.{halfModulus, transformSize, transformRoot, multiplierCount, multiplierBytes, packedBytes, publicKeyBytes};
-ghost use Rattle.sets.specs.Derived.{cpaCiphertextBytes, isEncryption, isExchange, secretKeyBytes, ciphertextBytes};
+ghost use Rattle.sets.specs.Derived.{halfModulus, transformSize, transformRoot, multiplierCount, errorCount, multiplierBits, multiplierBytes};
+ghost use Rattle.sets.specs.Derived.{packedBytes, publicKeyBytes, cpaCiphertextBytes, isEncryption, isExchange, secretKeyBytes, ciphertextBytes};
 
 // The half modulus h.
 pub fn half_modulus(p: Parameters) -> u32
@@ -43,6 +43,21 @@ pub fn multiplier_count(p: Parameters) -> usize
     ensures { λ r. ⌜ r ≡ multiplierCount p ⌝ }
 {
     p.t * (p.k + 1)
+}
+
+// How many errors one key has.
+pub fn error_count(p: Parameters) -> usize
+    requires { ⌜ Rules p ⌝ }
+    ensures { λ r. ⌜ (r ≡ errorCount p) × (r ≤ 12790) ⌝ }
+{
+    p.t * (p.d + p.k)
+}
+
+// The bits that the size of a multiplier is drawn from at a position.
+pub fn multiplier_bits(p: Parameters, position: usize) -> u32
+    ensures { λ r. ⌜ r ≡ multiplierBits p position ⌝ }
+{
+    if position < p.ndec1 { p.b1 } else { p.b2 }
 }
 
 // Zbbytes: the bytes that the size of one multiplier is drawn from.

@@ -11,9 +11,8 @@ use Rattle.maths.specs.Rounding.{floorBit}
 use Rattle.calls.specs.Checks.{passing, refuseFirst}
 use Rattle.calls.specs.Region.{region, joined}
 use Rattle.sets.specs.Table.{none, table, setOf}
-use Rattle.sets.specs.Derived.{halfModulus}
+use Rattle.sets.specs.Derived.{halfModulus, multiplierBits, multiplierBound}
 use Rattle.numbers.specs.Scheme.{keyPart, key, sumOfProducts, firstPart, sumOfMiddles, secondPart, opened, roundedBit, reading}
-use Rattle.numbers.specs.Calls.{multiplierBound}
 use Rattle.numbers.specs.Noise.{numbersNoise}
 use Rattle.draws.specs.Calls.{inTurn}
 use Rattle.sheet_bench.specs.Bench as bench
@@ -39,9 +38,9 @@ sheetOf-example :
     49 ∷ 32 ∷ 45 ∷ 49 ∷ 32 ∷ 48 ∷ 32 ∷ 48 ∷ 10 ∷
     99 ∷ 101 ∷ 105 ∷ 108 ∷ 105 ∷ 110 ∷ 103 ∷ 32 ∷ 52 ∷ 32 ∷ 104 ∷ 97 ∷ 108 ∷ 102 ∷ 32 ∷ 56 ∷ 10 ∷ []
 unfolding sheetOf sheetAnswer inputAnswer setByte hasSheet inputBytes rowsAnswer rowsText rowNoise rowSent rowRead ceiling halfModulus none table setOf
-    bench.benchAnswer bench.benchFits bench.signed handedIn inTurn refuseFirst passing multiplierBound region numbersNoise productℤ sumℤ joined tabulate sum
-    product middleProduct residue floorBit keyPart key sumOfProducts firstPart sumOfMiddles secondPart opened roundedBit reading sheetText header rows row
-    lastLine ceilingWord halfWord shown ordered inserted insert before sizeAt decimal.signed decimal.decimal decimal.digits
+    bench.benchAnswer bench.benchFits bench.signed handedIn inTurn refuseFirst passing multiplierBound multiplierBits region
+    numbersNoise productℤ sumℤ joined tabulate sum product middleProduct residue floorBit keyPart key sumOfProducts firstPart sumOfMiddles
+    secondPart opened roundedBit reading sheetText header rows row lastLine ceilingWord halfWord shown ordered inserted insert before sizeAt decimal.signed decimal.decimal decimal.digits
 sheetOf-example = refl
 
 -- refused 2 0, for an empty input

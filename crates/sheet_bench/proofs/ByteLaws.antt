@@ -11,7 +11,7 @@ use mir.Syntax.{w32}
 use mir.Val.{SFits, ofZ, toZ}
 use mir.ValLaws.{toZ-ofZ, toZ-pos}
 use Rattle.sets.specs.Table.{none, table, setOf}
-use Rattle.numbers.specs.Calls.{multiplierBound}
+use Rattle.sets.specs.Derived.{multiplierBits, multiplierBound}
 use Rattle.sheet_bench.specs.Bench.{bench, signed, benchFits}
 
 -- a byte below 128 stands for itself, any other for a negative number
@@ -62,7 +62,7 @@ unfolding none table setOf
 bench-error = refl
 
 pub bench-multiplier : (position : ℕ) → multiplierBound bench position ≡ 2
-unfolding multiplierBound none table setOf
+unfolding multiplierBound multiplierBits none table setOf
 bench-multiplier position = go (ltb position 2)
   where
     go : (first : Bool) → 2 ^ cond first 1 1 ≡ 2

@@ -16,6 +16,7 @@ use Rattle.calls.specs.Region.{region}
 use Rattle.calls.proofs.Checks.{refuseFirst-accepted, passing-all}
 use Rattle.calls.proofs.Region.{region-length, region-entry}
 use Rattle.sets.specs.Table.{none, table, setOf}
+use Rattle.sets.specs.Derived.{multiplierCount, errorCount}
 use Rattle.claim.specs.Claim.{drawn}
 use Rattle.claim.proofs.Numbers.{Inputs, key-takes, sealing-takes}
 use Rattle.sheet_bench.specs.Bench.{bench, signed, benchPublic, benchSecret, benchErrors, benchMultipliers, benchMessage, benchHanded, benchFits}
@@ -42,12 +43,12 @@ bench-secret : bench .n + bench .d + bench .k - 1 ≡ 4
 unfolding none table setOf
 bench-secret = refl
 
-pub bench-errors : bench .t * (bench .d + bench .k) ≡ 3
-unfolding none table setOf
+pub bench-errors : errorCount bench ≡ 3
+unfolding none table setOf errorCount
 bench-errors = refl
 
-bench-multipliers : bench .t * (bench .k + 1) ≡ 2
-unfolding none table setOf
+bench-multipliers : multiplierCount bench ≡ 2
+unfolding none table setOf multiplierCount
 bench-multipliers = refl
 
 pub bench-message : bench .d ≡ 2

@@ -16,9 +16,9 @@ use Rattle.calls.specs.Checks.{passing, refuseFirst, below}
 use Rattle.calls.specs.Region.{region, joined}
 use Rattle.sets.specs.declared.Parameters.{Parameters}
 use Rattle.sets.specs.Table.{none, table, setOf}
-use Rattle.sets.specs.Derived.{halfModulus}
+use Rattle.sets.specs.Derived.{halfModulus, multiplierBits, multiplierBound}
 use Rattle.numbers.specs.Scheme.{keyPart, key, sumOfProducts, firstPart, sumOfMiddles, secondPart, opened, roundedBit, reading}
-use Rattle.numbers.specs.Calls.{isError, isMultiplier, multiplierBound}
+use Rattle.numbers.specs.Calls.{isError, isMultiplier}
 use Rattle.numbers.specs.Noise.{numbersNoise}
 use Rattle.claim.specs.Claim.{Handed, onNumbers, firstOf, secondOf}
 
@@ -77,7 +77,7 @@ abbrev example : List ℕ
 example = 0 ∷ 3 ∷ 5 ∷ 1 ∷ 2 ∷ 3 ∷ 4 ∷ 1 ∷ 0 ∷ 255 ∷ 1 ∷ 254 ∷ 1 ∷ 0 ∷ []
 
 benchAnswer-example : benchAnswer example ≡ accepted
-unfolding benchAnswer benchFits signed refuseFirst passing none table setOf multiplierBound
+unfolding benchAnswer benchFits signed refuseFirst passing none table setOf multiplierBound multiplierBits
 benchAnswer-example = refl
 
 benchNoise-example : benchNoise example ≡ negsuc 1 ∷ negsuc 0 ∷ []
@@ -91,10 +91,10 @@ benchRead-example = refl
 
 -- 17 stands for no residue, at place 2
 benchAnswer-example₂ : benchAnswer (0 ∷ 3 ∷ 17 ∷ 1 ∷ 2 ∷ 3 ∷ 4 ∷ 1 ∷ 0 ∷ 255 ∷ 1 ∷ 254 ∷ 1 ∷ 0 ∷ []) ≡ refused 3 2
-unfolding benchAnswer benchFits signed refuseFirst passing none table setOf multiplierBound
+unfolding benchAnswer benchFits signed refuseFirst passing none table setOf multiplierBound multiplierBits
 benchAnswer-example₂ = refl
 
 -- 0 is no multiplier, at place 10
 benchAnswer-example₃ : benchAnswer (0 ∷ 3 ∷ 5 ∷ 1 ∷ 2 ∷ 3 ∷ 4 ∷ 1 ∷ 0 ∷ 255 ∷ 0 ∷ 254 ∷ 1 ∷ 0 ∷ []) ≡ refused 3 10
-unfolding benchAnswer benchFits signed refuseFirst passing none table setOf multiplierBound
+unfolding benchAnswer benchFits signed refuseFirst passing none table setOf multiplierBound multiplierBits
 benchAnswer-example₃ = refl

@@ -7,7 +7,7 @@ use Prim.Native.Nat.{ℕ, zero, suc, _+_, _*_, _^_, _≤_, _<_}
 use native.Mathlib.Nat.{le-of-suc-le-suc, not-suc-le-zero, zero-add}
 use native.Mathlib.Decide.{decLt}
 use native.Mathlib.Omega.{arith}
-use borrow.Author.Tests.{leb-true, lt-ltb, le-ltb}
+use borrow.Author.Tests.{leb-true}
 use lib.Dec.{leb}
 use lib.IntN.{ℤ, pos, _+ℤ_, _*ℤ_, natAbs}
 use lib.ListN.{length, getD, drop, length-map, List·getD-eq-default}
@@ -15,24 +15,24 @@ use Rattle.maths.specs.Vector.{at}
 use Rattle.maths.specs.Integer.{residue, centre, correlationℤ}
 use Rattle.maths.proofs.Vector.{at-past}
 use Rattle.maths.proofs.Integer.{residue-lt, centre-residue, sumℤ-cong, natAbs-+ℤ}
-use Rattle.calls.specs.Checks.{allOf, below}
+use Rattle.calls.specs.Checks.{allOf}
 use Rattle.calls.specs.Region.{vector}
-use Rattle.calls.proofs.Checks.{passing-is}
 use Rattle.calls.proofs.Region.{region-entry}
 use Rattle.sets.specs.declared.Parameters.{Parameters}
 use Rattle.sets.specs.Rules.{Rules, ByteRules}
 use Rattle.sets.specs.Table.{table, setOf, IsSet}
-use Rattle.sets.specs.Derived.{halfModulus, multiplierCount}
+use Rattle.sets.specs.Derived.{halfModulus, multiplierCount, errorCount, multiplierBits}
 use Rattle.sets.proofs.Rules.{rules, byteRules}
 use Rattle.sets.proofs.Tested.{passed, at-each}
 use Rattle.draws.specs.Calls.{inTurn}
-use Rattle.draws.proofs.Laws.{power-most, bits-most, turn-length, turn-at}
-use Rattle.draws.specs.Small.{multiplierBits}
-use Rattle.samplers.specs.Seeded.{errorCount, multipliersDrawn, secretState}
+use Rattle.sets.proofs.Counts.{bits-most}
+use Rattle.draws.proofs.Laws.{power-most, turn-length, turn-at}
+use Rattle.samplers.specs.Seeded.{multipliersDrawn, secretState}
 use Rattle.samplers.proofs.Laws.{errorsDrawn-length, errorsDrawn-most, multipliersDrawn-length, multipliersDrawn-most}
-use Rattle.scheme.specs.Answers.{allBelow}
+use Rattle.scheme.specs.Answers.{onlyResidues}
 use Rattle.scheme.specs.Encryption.{secretSeed, publicKey, errors, encryptedNumbers, keyNumbers}
 use Rattle.scheme.specs.Noise.{productNoise, droppedNoise, noise}
+use Rattle.scheme.proofs.Answers.{all-below}
 use Rattle.scheme.proofs.Conditions.{set-conditions}
 use Rattle.scheme.proofs.Bytes.{keyNumbers-below, encryptedNumbers-below, cipherSecond-at}
 use Rattle.sheet_noise.specs.Centred.{Residues, centredTerm, centredCorrelation, centredPart, centredProduct, centredDropped, centredNoise, drawnNoise}
@@ -60,13 +60,6 @@ map-residues q zs some =
             | no h ↦ rw (at-past (map (residue q) zs) k (rw length-map (omega arith))) some
           ];
     }
-
--- numbers that are all below q
-pub all-below : (q : ℕ) (xs : List ℕ) → ((k : ℕ) → at xs k < q) → allBelow q xs ≡ true
-unfolding allBelow
-all-below q xs each =
-    let passed : length xs ≡ _ = passing-is (below q) 0 xs 0 (length xs) (omega arith) (λ k h. lt-ltb (at xs k) q (each k)) (λ h. absurd (omega arith)) in
-    rw (← passed, le-ltb (length xs) (length xs) (omega arith))
 
 -- half the modulus of sets 1 to 12 is larger than every multiplier
 abbrev halfTests : Parameters → List Bool
@@ -188,7 +181,7 @@ module _ (set : ℕ) (some : 1 ≤ set) (low : IsSet set) (seed message sealing 
       ]
 
   -- the numbers of the public key are residues
-  pub key-below : (public : List ℕ) → public ≡ publicKey (setOf set) seed → allBelow (setOf set .q) (keyNumbers (setOf set) public) ≡ true
+  pub key-below : (public : List ℕ) → public ≡ publicKey (setOf set) seed → onlyResidues (setOf set .q) (keyNumbers (setOf set) public) ≡ true
   key-below public e =
       rw e (all-below (setOf set .q) (keyNumbers (setOf set) (publicKey (setOf set) seed)) (keyNumbers-below (set-conditions set some low) seed))
 

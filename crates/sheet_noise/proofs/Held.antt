@@ -13,12 +13,12 @@ use Rattle.calls.specs.Region.{region, over}
 use Rattle.calls.proofs.Region.{over-lent, over-take, region-part, region-over-same}
 use Rattle.sets.specs.declared.Parameters.{Parameters}
 use Rattle.sets.specs.Table.{setOf, IsSet}
-use Rattle.sets.specs.Derived.{multiplierCount}
+use Rattle.sets.specs.Derived.{multiplierCount, errorCount}
 use Rattle.sets.proofs.Rules.{rules, byteRules}
 use Rattle.draws.specs.Uniform.{Drawn, taken, ended, exhausted}
 use Rattle.byte_source.specs.Source.{State, initial}
 use Rattle.samplers.specs.Blocks.{Sampled, uniform, onto, refusal, uniformAnswer}
-use Rattle.samplers.specs.Seeded.{errorCount, secretSampled, secretDrawn, secretState, multipliersDrawn}
+use Rattle.samplers.specs.Seeded.{secretSampled, secretDrawn, secretState, multipliersDrawn}
 use Rattle.samplers.proofs.Laws.{answer-onto, answer-refusal}
 use Rattle.scheme.specs.Answers.{workLength, isTaken}
 use Rattle.scheme.specs.Encryption.{errors}

@@ -15,9 +15,8 @@ use Rattle.maths.specs.Integer.{sumℤ, centre}
 use Rattle.maths.proofs.Integer.{natAbs-+ℤ, natAbs-*ℤ, natAbs-centre, sumℤ-none, sumℤ-last}
 use Rattle.sets.specs.declared.Parameters.{Parameters}
 use Rattle.sets.specs.Rules.{Rules, ByteRules}
-use Rattle.sets.specs.Derived.{halfModulus, multiplierCount, errorDrawBytes}
+use Rattle.sets.specs.Derived.{halfModulus, multiplierCount, errorDrawBytes, errorCount}
 use Rattle.packing.specs.Dropped.{chop}
-use Rattle.samplers.specs.Seeded.{errorCount}
 use Rattle.sheet_noise.specs.Centred.{Residues, centredTerm, centredCorrelation, centredPart, centredProduct, centredDropped}
 use Rattle.sheet_noise.proofs.Words.{stored}
 

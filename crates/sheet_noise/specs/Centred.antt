@@ -8,9 +8,9 @@ use Rattle.maths.specs.Vector.{at}
 use Rattle.maths.specs.Integer.{residue, sumℤ, centre, centreBy}
 use Rattle.calls.specs.Region.{region}
 use Rattle.sets.specs.declared.Parameters.{Parameters}
-use Rattle.sets.specs.Derived.{halfModulus, multiplierCount}
+use Rattle.sets.specs.Derived.{halfModulus, multiplierCount, errorCount}
 use Rattle.packing.specs.Dropped.{chop}
-use Rattle.samplers.specs.Seeded.{errorCount, multipliersDrawn}
+use Rattle.samplers.specs.Seeded.{multipliersDrawn}
 use Rattle.scheme.specs.Encryption.{errors}
 use Rattle.scheme.specs.Noise.{productNoise}
 

@@ -9,9 +9,9 @@ ghost use lib.ListN.{length, getD};
 ghost use Rattle.maths.specs.Vector.{at};
 ghost use Rattle.sets.specs.Rules.{Rules, ByteRules};
 ghost use Rattle.sets.specs.Table.{setOf, IsSet};
-ghost use Rattle.sets.specs.Derived.{multiplierCount};
+ghost use Rattle.sets.specs.Derived.{multiplierCount, errorCount};
 ghost use Rattle.draws.specs.Calls.{inTurn};
-ghost use Rattle.samplers.specs.Seeded.{errorCount, secretDrawn};
+ghost use Rattle.samplers.specs.Seeded.{secretDrawn};
 ghost use Rattle.scheme.specs.Answers.{workLength, isTaken};
 ghost use Rattle.scheme.specs.Encryption.{secretSeed, publicKey};
 ghost use Rattle.scheme.specs.Noise as scheme;
@@ -54,7 +54,7 @@ fn draw_errors(set: usize, secret: &[u8], work: &mut [u32])
 {
     let p = sets::parameters_of(set);
     let size = p.d3;
-    let count = samplers::error_count(p);
+    let count = sets::derived::error_count(p);
     let Advance::Counter(counter) = samplers::residues_from(
         p,
         secret,
@@ -74,7 +74,7 @@ fn draw(set: usize, secret: &[u8], sealing: &[u8], work: &mut [u32])
     ensures { λ _. ⌜ Held (setOf set) (now (secret .entry)) (now (sealing .entry)) (now (work .exit)) ⌝ }
 {
     let p = sets::parameters_of(set);
-    let start = samplers::error_count(p);
+    let start = sets::derived::error_count(p);
     let end = start + sets::derived::multiplier_count(p);
     draw_errors(set, secret, work);
     samplers::multipliers_from(p, sealing, &mut work[start..end]);
@@ -95,7 +95,7 @@ fn noise_from(
     ensures { λ _. ⌜ now (noise .exit) ≡ inTurn (drawnNoise (setOf set) (now (secret .entry)) (now (sealing .entry)) (now (before .entry))) 0 (setOf set .d) ⌝ }
 {
     let p = sets::parameters_of(set);
-    let start = samplers::error_count(p);
+    let start = sets::derived::error_count(p);
     let end = start + sets::derived::multiplier_count(p);
     draw(set, secret, sealing, work);
     fill(p, &work[start..end], &work[0..start], before, noise);

@@ -6,9 +6,8 @@ ghost use lib.IntN.{natAbs, _+ℤ_, _*ℤ_};
 ghost use lib.ListN.{length};
 ghost use Rattle.maths.specs.Integer.{centre};
 ghost use Rattle.sets.specs.Rules.{Rules, ByteRules};
-ghost use Rattle.sets.specs.Derived.{halfModulus, multiplierCount};
+ghost use Rattle.sets.specs.Derived.{halfModulus, multiplierCount, errorCount};
 ghost use Rattle.packing.specs.Dropped.{chop};
-ghost use Rattle.samplers.specs.Seeded.{errorCount};
 ghost use Rattle.sheet_noise.specs.Centred.{Residues, centredCorrelation, centredProduct, centredDropped};
 
 // The sum of two whole numbers.

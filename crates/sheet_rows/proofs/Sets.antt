@@ -11,10 +11,9 @@ use lib.Dec.{leb, eqb}
 use Rattle.calls.specs.Checks.{allOf}
 use Rattle.sets.specs.declared.Parameters.{Parameters}
 use Rattle.sets.specs.Table.{none, table, setOf, lastSet, IsSet}
-use Rattle.sets.specs.Derived.{isEncryption, isExchange}
+use Rattle.sets.specs.Derived.{isEncryption, isExchange, errorCount}
 use Rattle.sets.proofs.Schemes.{past, encryption-only}
 use Rattle.sets.proofs.Tested.{passed, at-each}
-use Rattle.samplers.specs.Seeded.{errorCount}
 use Rattle.scheme.specs.Answers.{workLength}
 use Rattle.sheet_rows.specs.Input.{hasSheet, sheetWork}
 

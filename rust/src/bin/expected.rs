@@ -1,7 +1,7 @@
 //! Writes what each program of crates/run_* must print, and what it reads, from this implementation and the vectors alone. With `--check` it
 //! writes nothing, and fails where a file differs from what it would write. It is run from the repository's root.
 
-use comparison::expected::{cases, draws, known, middle, numbers, samplers, sheets, sponge, ties, transforms, whole};
+use comparison::expected::{cases, damage, draws, known, middle, numbers, samplers, sheets, sponge, ties, transforms, whole};
 use comparison::sheet::sheet;
 
 fn main() {
@@ -9,10 +9,10 @@ fn main() {
     let mut differs = false;
     let files = [
         ("run_bytes/stdin", known::drawn_input()),
-        ("run_bytes/stdout", [known::drawn_text(), sponge::text(), draws::text(), samplers::text()].concat().into_bytes()),
-        ("run_arithmetic/stdout", [numbers::text(), middle::text(), transforms::text()].concat().into_bytes()),
+        ("run_bytes/stdout", [known::drawn_text(), sponge::text(), draws::text(), samplers::text(), damage::bytes()].concat().into_bytes()),
+        ("run_arithmetic/stdout", [numbers::text(), middle::text(), transforms::text(), damage::arithmetic()].concat().into_bytes()),
         ("run_scheme/stdin", [known::input(), ties::input(), sheets::input()].concat()),
-        ("run_scheme/stdout", [known::text(), ties::text(), cases::text(), whole::text(), sheets::text()].concat().into_bytes()),
+        ("run_scheme/stdout", [known::text(), ties::text(), cases::text(), whole::text(), sheets::text(), damage::scheme()].concat().into_bytes()),
         ("noisesheet/stdin", sheets::BENCH.to_vec()),
         ("noisesheet/stdout", sheet(&sheets::BENCH).into_bytes()),
     ];

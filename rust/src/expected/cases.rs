@@ -24,13 +24,13 @@ pub const SETS: [[usize; 5]; 14] = [
 ];
 
 /// One set with one choice of inputs, in one of the two schemes.
-struct Case {
+pub struct Case {
     is_exchange: bool,
     number: usize,
     inputs: [Vec<u8>; 3],
-    public: Vec<u8>,
-    secret: Vec<u8>,
-    sealed: Vec<u8>,
+    pub public: Vec<u8>,
+    pub secret: Vec<u8>,
+    pub sealed: Vec<u8>,
 }
 
 /// Writes what a call made at the front of a slice.
@@ -49,6 +49,11 @@ pub fn checked(is_exchange: bool, number: usize, change: usize) -> Result<Set, R
 }
 
 impl Case {
+    /// A case that has made no keys; its inputs are a key seed, a sealing seed and a message.
+    pub fn new(is_exchange: bool, number: usize, inputs: [Vec<u8>; 3]) -> Self {
+        Case { is_exchange, number, inputs, public: Vec::new(), secret: Vec::new(), sealed: Vec::new() }
+    }
+
     fn checked(&self, change: usize) -> Result<Set, Refusal> {
         checked(self.is_exchange, self.number, change)
     }
@@ -62,7 +67,7 @@ impl Case {
         format!("{name} {} {change} {} {outputs} {}\n", self.number, answer(given), number_sum(&work))
     }
 
-    fn key(&mut self, change: usize) -> String {
+    pub fn key(&mut self, change: usize) -> String {
         let make = if self.is_exchange { exchange_key } else { key };
         let made = self.checked(change).and_then(|s| make(&s, &self.inputs[0]));
         (self.public, self.secret) = (pattern(26913, 1), pattern(26945, 2));
@@ -96,7 +101,7 @@ impl Case {
         self.line("encapsulate", change, &made, &format!("{} {}", byte_sum(&self.sealed), hex(&shared)))
     }
 
-    fn seal(&mut self, change: usize) -> String {
+    pub fn seal(&mut self, change: usize) -> String {
         if self.is_exchange {
             self.encapsulate(change)
         } else {
@@ -104,7 +109,7 @@ impl Case {
         }
     }
 
-    fn open(&self, change: usize) -> String {
+    pub fn open(&self, change: usize) -> String {
         let (name, start) = if self.is_exchange { ("decapsulate", 5) } else { ("decrypt", 4) };
         let open = if self.is_exchange { decapsulate } else { decrypt };
         let [_, secret_bytes, sealed_bytes, ..] = SETS[self.number];
@@ -142,8 +147,7 @@ impl Case {
 }
 
 fn case(is_exchange: bool, number: usize, start: usize) -> String {
-    let inputs = [start, start + 1, start + 2].map(|start| pattern(32, start));
-    Case { is_exchange, number, inputs, public: Vec::new(), secret: Vec::new(), sealed: Vec::new() }.text()
+    Case::new(is_exchange, number, [start, start + 1, start + 2].map(|start| pattern(32, start))).text()
 }
 
 pub fn text() -> String {

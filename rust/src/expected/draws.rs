@@ -1,35 +1,55 @@
 //! What run_bytes prints of the draws over lent bytes.
 
 use super::report::{answer, number_sum, pattern, signed_sum};
-use crate::draws::{errors, multipliers, residues};
+use crate::draws::{errors, multipliers, residues, Refusal};
 use crate::parameters::set;
 
 const LENT: usize = 15300;
 const MOST: usize = 4097;
 
-/// An output of 7s, with the numbers drawn in front of it where the draw is accepted.
-fn output<T: Copy>(drawn: Option<Vec<T>>, unwritten: T) -> Vec<T> {
-    let mut out = drawn.unwrap_or_default();
-    out.resize(MOST, unwritten);
-    out
+/// Writes the numbers drawn at the front of an output, where the draw is accepted.
+fn put<T: Copy>(out: &mut [T], drawn: &Result<Vec<T>, Refusal>) {
+    if let Ok(drawn) = drawn {
+        out[..drawn.len()].copy_from_slice(drawn);
+    }
 }
 
-fn residues_line(number: usize, [lent, wanted, first, count]: [usize; 4]) -> String {
-    let mut bytes = pattern(LENT, 1);
-    bytes[3 * first..3 * (first + count)].fill(255);
+/// Residues from lent bytes, of which `count` candidates from number `first` on are set aside.
+pub fn residues_of(bytes: &[u8], out: &mut [u32], number: usize, [lent, wanted, first, count]: [usize; 4]) -> String {
     let drawn = residues(set(number), &bytes[..lent], wanted);
-    let (answer, sum) = (answer(&drawn), number_sum(&output(drawn.ok(), 7)));
-    format!("residues {number} {lent} {wanted} {first} {count} {answer} {sum}\n")
+    put(out, &drawn);
+    format!("residues {number} {lent} {wanted} {first} {count} {} {}\n", answer(&drawn), number_sum(out))
+}
+
+fn residues_line(number: usize, case: [usize; 4]) -> String {
+    let mut bytes = pattern(LENT, 1);
+    set_aside(&mut bytes, case[2], case[3]);
+    residues_of(&bytes, &mut [7; MOST], number, case)
+}
+
+/// Makes `count` candidates from number `first` on such that a draw sets them aside.
+pub fn set_aside(bytes: &mut [u8], first: usize, count: usize) {
+    bytes[3 * first..3 * (first + count)].fill(255);
+}
+
+pub fn errors_of(bytes: &[u8], out: &mut [i32], number: usize, lent: usize, wanted: usize) -> String {
+    let drawn = errors(set(number), &bytes[..lent], wanted);
+    put(out, &drawn);
+    format!("errors {number} {lent} {wanted} {} {}\n", answer(&drawn), signed_sum(out))
 }
 
 fn errors_line(number: usize, lent: usize, wanted: usize) -> String {
-    let drawn = errors(set(number), &pattern(LENT, 2)[..lent], wanted);
-    format!("errors {number} {lent} {wanted} {} {}\n", answer(&drawn), signed_sum(&output(drawn.ok(), 7)))
+    errors_of(&pattern(LENT, 2), &mut [7; MOST], number, lent, wanted)
+}
+
+pub fn multipliers_of(bytes: &[u8], out: &mut [i32], number: usize, [lent, first, wanted]: [usize; 3]) -> String {
+    let drawn = multipliers(set(number), &bytes[..lent], first, wanted);
+    put(out, &drawn);
+    format!("multipliers {number} {lent} {first} {wanted} {} {}\n", answer(&drawn), signed_sum(out))
 }
 
 fn multipliers_line(number: usize, lent: usize, first: usize, wanted: usize) -> String {
-    let drawn = multipliers(set(number), &pattern(LENT, 3)[..lent], first, wanted);
-    format!("multipliers {number} {lent} {first} {wanted} {} {}\n", answer(&drawn), signed_sum(&output(drawn.ok(), 7)))
+    multipliers_of(&pattern(LENT, 3), &mut [7; MOST], number, [lent, first, wanted])
 }
 
 fn every_set() -> String {

@@ -19,11 +19,11 @@ fn filled(start: u64, q: u64, place: usize) -> Vec<u32> {
 }
 
 /// The slices of one set and what the calls on them print.
-struct Run {
-    number: usize,
-    size: usize,
-    a: Vec<u32>,
-    b: Vec<u32>,
+pub struct Run {
+    pub number: usize,
+    pub size: usize,
+    pub a: Vec<u32>,
+    pub b: Vec<u32>,
 }
 
 impl Run {
@@ -33,7 +33,7 @@ impl Run {
         Run { number, size: s.sizes[2], a, b }
     }
 
-    fn line(&self, name: &str, [n, m, results]: [usize; 3], lent: Option<usize>) -> String {
+    pub fn line(&self, name: &str, [n, m, results]: [usize; 3], lent: Option<usize>) -> String {
         let lengths = Lengths { results, work: lent };
         let given = middle_product_call(set(self.number), &self.a[..n], &self.b[..m], lengths);
         let mut out = given.product.clone().unwrap_or_default();
@@ -51,7 +51,7 @@ impl Run {
         line + "\n"
     }
 
-    fn transformed(&self, lengths: [usize; 3], lent: usize) -> String {
+    pub fn transformed(&self, lengths: [usize; 3], lent: usize) -> String {
         self.line("transformed", lengths, Some(lent))
     }
 

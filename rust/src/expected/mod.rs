@@ -1,6 +1,7 @@
 //! What the programs of crates/run_* print, made by this implementation.
 
 pub mod cases;
+pub mod damage;
 pub mod draws;
 pub mod known;
 pub mod middle;

@@ -11,9 +11,9 @@ const ERRORS: [i32; 16] = [4, 0, -4, 1, -1, 2, -3, 0, 3, -2, 1, 0, -1, 4, -4, 2]
 const MULTIPLIERS: [i32; 16] = [16, -16, 1, -1, 5, -9, 12, -3, 2, -2, 7, -11, 15, -6, 4, -8];
 
 /// One set (past the last set, the numbers of set 0), and what each call takes. Each vector of inputs has one number more than the set's length.
-struct Row {
-    number: usize,
-    s: Set,
+pub struct Row {
+    pub number: usize,
+    pub s: Set,
 }
 
 /// A case: which length is changed (0: none) and which number is wrong (0: none).
@@ -24,15 +24,10 @@ fn cases(lengths: usize, wrongs: usize) -> impl Iterator<Item = Case> {
     (1..=lengths).map(|change| (change, 0)).chain((1..=wrongs).map(|wrong| (0, wrong))).chain([(1, 1)])
 }
 
-fn sum(numbers: &[u32], length: usize) -> u64 {
-    let mut out = numbers.to_vec();
-    out.resize(length, 7);
-    number_sum(&out)
-}
-
-/// What a call made, or as many sevens as it was lent.
-fn made_or(made: Vec<u32>, length: usize) -> Vec<u32> {
-    if made.is_empty() { vec![7; length] } else { made }
+/// A slice of 7s, with what a call made in front of it.
+fn over_sevens(mut made: Vec<u32>, length: usize) -> Vec<u32> {
+    made.resize(length, 7);
+    made
 }
 
 fn repeated(bench: bool, figures: &[i32], numbers: &[i32], length: usize) -> Vec<i32> {
@@ -44,6 +39,14 @@ fn repeated(bench: bool, figures: &[i32], numbers: &[i32], length: usize) -> Vec
 impl Row {
     fn is_bench(&self) -> bool {
         self.s.number == 0
+    }
+
+    fn a_numbers(&self) -> usize {
+        self.s.t * self.s.n
+    }
+
+    fn secret_numbers(&self) -> usize {
+        self.s.n + self.s.d + self.s.k - 1
     }
 
     fn key_numbers(&self) -> usize {
@@ -59,11 +62,11 @@ impl Row {
     }
 
     fn a(&self) -> Vec<u32> {
-        self.figures_or(&[3, 5], self.s.t * self.s.n, 1, self.s.q)
+        self.figures_or(&[3, 5], self.a_numbers(), 1, self.s.q)
     }
 
     fn secret(&self) -> Vec<u32> {
-        self.figures_or(&[1, 2, 3, 4], self.s.n + self.s.d + self.s.k - 1, 2, self.s.q)
+        self.figures_or(&[1, 2, 3, 4], self.secret_numbers(), 2, self.s.q)
     }
 
     fn message(&self) -> Vec<u32> {
@@ -100,58 +103,71 @@ impl Row {
         r
     }
 
-    fn key(&self, (change, wrong): Case) -> (String, Vec<u32>) {
-        let (mut a, mut s, mut e, q) = (self.a(), self.secret(), self.errors(), self.s.q as u32);
-        let lengths = [a.len() - 1, s.len() - 1, e.len() - 1, self.key_numbers()];
-        match wrong {
-            1 => a[0] = q,
-            2 => a[lengths[0] - 1] = q,
-            3 => s[lengths[1] - 1] = q,
-            4 => e[lengths[2] - 1] = self.s.eta as i32 + 1,
-            5 => e[lengths[2] - 1] = -(self.s.eta as i32) - 1,
-            _ => {}
-        }
-        let [n, m, o, results] = changed(lengths, change);
+    /// The line of a key, and what the call was lent for b.
+    pub fn key_of(&self, change: usize, a: &[u32], s: &[u32], e: &[i32]) -> (String, Vec<u32>) {
+        let numbers = self.key_numbers();
+        let [n, m, o, results] = changed([self.a_numbers(), self.secret_numbers(), numbers, numbers], change);
         let given = key(set(self.number), &a[..n], &s[..m], &e[..o], results);
         let answer = answer(&given);
-        let b = given.unwrap_or_default();
-        (format!("key {} {n} {m} {o} {results} {answer} {}\n", self.number, sum(&b, 10233)), made_or(b, self.key_numbers()))
+        let b = over_sevens(given.unwrap_or_default(), 10233);
+        (format!("key {} {n} {m} {o} {results} {answer} {}\n", self.number, number_sum(&b)), b)
     }
 
-    fn sealing(&self, b: &[u32], (change, wrong): Case) -> (String, [Vec<u32>; 2]) {
-        let (mut a, mut b, r, mut m, q) = (self.a(), b.to_vec(), self.multipliers(wrong), self.message(), self.s.q as u32);
-        let lengths = [a.len() - 1, b.len(), r.len() - 1, m.len() - 1, self.s.n + self.s.k, self.s.d];
-        b.push(7);
+    fn key(&self, (change, wrong): Case) -> (String, Vec<u32>) {
+        let (mut a, mut s, mut e, q) = (self.a(), self.secret(), self.errors(), self.s.q as u32);
         match wrong {
-            1 => a[lengths[0] - 1] = q,
-            2 => b[lengths[1] - 1] = q,
-            9 => m[lengths[3] - 1] = 2,
+            1 => a[0] = q,
+            2 => a[self.a_numbers() - 1] = q,
+            3 => s[self.secret_numbers() - 1] = q,
+            4 => e[self.key_numbers() - 1] = self.s.eta as i32 + 1,
+            5 => e[self.key_numbers() - 1] = -(self.s.eta as i32) - 1,
             _ => {}
         }
+        self.key_of(change, &a, &s, &e)
+    }
+
+    /// The line of a sealing, and what the call was lent for c1 and c2.
+    pub fn sealing_of(&self, change: usize, a: &[u32], b: &[u32], r: &[i32], m: &[u32]) -> (String, [Vec<u32>; 2]) {
+        let lengths = [self.a_numbers(), self.key_numbers(), self.s.multipliers(), self.s.d, self.s.n + self.s.k, self.s.d];
         let lent = changed(lengths, change);
         let given = sealing(set(self.number), &a[..lent[0]], &b[..lent[1]], &r[..lent[2]], &m[..lent[3]], [lent[4], lent[5]]);
         let answer = answer(&given);
         let (c1, c2) = given.unwrap_or_default();
+        let (c1, c2) = (over_sevens(c1, 3072), over_sevens(c2, 257));
         let lent = lent.map(|length| length.to_string()).join(" ");
-        let line = format!("sealing {} {lent} {answer} {} {}\n", self.number, sum(&c1, 3072), sum(&c2, 257));
-        (line, [made_or(c1, lengths[4]), made_or(c2, lengths[5])])
+        let line = format!("sealing {} {lent} {answer} {} {}\n", self.number, number_sum(&c1), number_sum(&c2));
+        (line, [c1, c2])
+    }
+
+    fn sealing(&self, b: &[u32], (change, wrong): Case) -> (String, [Vec<u32>; 2]) {
+        let (mut a, mut b, r, mut m, q) = (self.a(), b.to_vec(), self.multipliers(wrong), self.message(), self.s.q as u32);
+        match wrong {
+            1 => a[self.a_numbers() - 1] = q,
+            2 => b[self.key_numbers() - 1] = q,
+            9 => m[self.s.d - 1] = 2,
+            _ => {}
+        }
+        self.sealing_of(change, &a, &b, &r, &m)
+    }
+
+    pub fn reading_of(&self, change: usize, c1: &[u32], c2: &[u32], s: &[u32]) -> String {
+        let lengths = [self.s.n + self.s.k, self.s.d, self.secret_numbers(), self.s.d];
+        let [n, m, o, results] = changed(lengths, change);
+        let given = reading(set(self.number), &c1[..n], &c2[..m], &s[..o], results);
+        let answer = answer(&given);
+        let bits = over_sevens(given.unwrap_or_default(), 257);
+        format!("reading {} {n} {m} {o} {results} {answer} {}\n", self.number, number_sum(&bits))
     }
 
     fn reading(&self, [c1, c2]: &[Vec<u32>; 2], (change, wrong): Case) -> String {
         let (mut c1, mut c2, mut s, q) = (c1.clone(), c2.clone(), self.secret(), self.s.q as u32);
-        let lengths = [c1.len(), c2.len(), s.len() - 1, self.s.d];
-        c1.push(7);
-        c2.push(7);
         match wrong {
-            1 => c1[lengths[0] - 1] = q,
-            2 => c2[lengths[1] - 1] = q,
-            3 => s[lengths[2] - 1] = q,
+            1 => c1[self.s.n + self.s.k - 1] = q,
+            2 => c2[self.s.d - 1] = q,
+            3 => s[self.secret_numbers() - 1] = q,
             _ => {}
         }
-        let [n, m, o, results] = changed(lengths, change);
-        let given = reading(set(self.number), &c1[..n], &c2[..m], &s[..o], results);
-        let answer = answer(&given);
-        format!("reading {} {n} {m} {o} {results} {answer} {}\n", self.number, sum(&given.unwrap_or_default(), 257))
+        self.reading_of(change, &c1, &c2, &s)
     }
 
     /// Reads numbers at both ties of the rounding, 2w = h and 2w = 3h, and beside them; c1 is 0, so that w is c2.
@@ -159,8 +175,8 @@ impl Row {
         assert!(self.s.half() % 2 == 0);
         let (low, high) = (self.s.half() as u32 / 2, self.s.half() as u32 / 2 * 3);
         let mut c2 = vec![low, high, low - 1, low + 1, high - 1, high + 1];
-        c2.resize(self.s.d, 0);
-        format!("tie {}", self.reading(&[vec![0; self.s.n + self.s.k], c2], (0, 0)))
+        c2.resize(257, 0);
+        format!("tie {}", self.reading(&[vec![0; 3072], c2], (0, 0)))
     }
 
     fn text(&self) -> String {

@@ -47,11 +47,14 @@ pub fn residues(length: usize, start: u64, q: u64) -> Vec<u32> {
     (0..length).map(|_| next()).collect()
 }
 
-/// The lengths of the slices of a call, one of which is one more or one less: 1 and 2 are one more and one less of the first, and so on.
+/// The lengths of the slices of a call, one of which may be another: 1 and 2 are one more and one less of the first, 3 and 4 of the second, and so on; 20
+/// is an empty first slice, 21 an empty second one, and so on.
 pub fn changed<const N: usize>(mut lengths: [usize; N], change: usize) -> [usize; N] {
-    if change > 0 {
-        let length = &mut lengths[(change - 1) / 2];
-        *length = if change % 2 == 1 { *length + 1 } else { *length - 1 };
+    match change {
+        0 => (),
+        20.. => lengths[change - 20] = 0,
+        _ if change % 2 == 1 => lengths[change / 2] += 1,
+        _ => lengths[change / 2 - 1] = lengths[change / 2 - 1].saturating_sub(1),
     }
     lengths
 }

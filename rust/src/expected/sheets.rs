@@ -61,12 +61,11 @@ fn made(noise: u32) -> String {
     format!("made {noise} done done {} {} {} {}\n", number_sum(&c1), number_sum(&c2), bits[0], bits[1])
 }
 
-/// The Bench sheet with the length of the text slice or of the work slice changed: what is answered and left in both.
-fn lent(change: usize) -> String {
-    let [text_bytes, numbers] = changed([1024, 22521], change);
+/// The sheet of an input with a text slice and a work slice of these lengths: what is answered and left in both.
+pub fn lent(input: &[u8], [text_bytes, numbers]: [usize; 2]) -> String {
     let (mut text, mut work, mut written) = (vec![7; 1025], vec![7; 22522], 0);
     if text_bytes >= 1024 && numbers == 22521 {
-        let sheet = sheet(&BENCH);
+        let sheet = sheet(input);
         written = sheet.len();
         text[..written].copy_from_slice(sheet.as_bytes());
         work[..numbers].fill(0);
@@ -76,6 +75,6 @@ fn lent(change: usize) -> String {
 
 pub fn text() -> String {
     let sheets: String = inputs().iter().map(|input| sheet(input)).collect();
-    let lent: String = (0..5).map(lent).collect();
+    let lent: String = (0..5).map(|change| lent(&BENCH, changed([1024, 22521], change))).collect();
     sheets + &lent + &[3, 14, 4, 13, 12, 6, 11, 11, 12].map(made).concat()
 }

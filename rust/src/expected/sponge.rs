@@ -14,32 +14,36 @@ fn checked(lengths: &[usize]) -> Result<(), Refusal> {
     Ok(())
 }
 
-fn shake(input: usize, output: usize) -> String {
-    let (x, mut y) = (pattern(LIMIT + 1, 1), pattern(LIMIT + 1, 2));
+/// SHAKE256 of the first bytes of `x`, over the first of `y`.
+pub fn shake_of(x: &[u8], y: &mut [u8], [input, output]: [usize; 2]) -> String {
     let checked = checked(&[input, output]);
     if checked.is_ok() {
         shake256(&x[..input], &mut y[..output]);
     }
-    format!("shake256 {input} {output} {} {}\n", answer(&checked), byte_sum(&y))
+    format!("shake256 {input} {output} {} {}\n", answer(&checked), byte_sum(y))
+}
+
+fn shake(input: usize, output: usize) -> String {
+    shake_of(&pattern(LIMIT + 1, 1), &mut pattern(LIMIT + 1, 2), [input, output])
 }
 
 type Kmac = fn(&[u8], &[u8], &[u8], &mut [u8]);
 
-fn kmac(name: &str, function: Kmac, start: usize, [key, input, customization, output]: [usize; 4]) -> String {
-    let (x, mut y) = (pattern(LIMIT + 1, 1), pattern(LIMIT + 1, start));
+/// The same of KMAC256 or KMACXOF256.
+pub fn kmac_of(name: &str, function: Kmac, x: &[u8], y: &mut [u8], [key, input, customization, output]: [usize; 4]) -> String {
     let checked = checked(&[key, input, customization, output]);
     if checked.is_ok() {
         function(&x[..key], &x[..input], &x[..customization], &mut y[..output]);
     }
-    format!("{name} {key} {input} {customization} {output} {} {}\n", answer(&checked), byte_sum(&y))
+    format!("{name} {key} {input} {customization} {output} {} {}\n", answer(&checked), byte_sum(y))
 }
 
 fn fixed(lengths: [usize; 4]) -> String {
-    kmac("kmac256", kmac256, 4, lengths)
+    kmac_of("kmac256", kmac256, &pattern(LIMIT + 1, 1), &mut pattern(LIMIT + 1, 4), lengths)
 }
 
 fn extendable(lengths: [usize; 4]) -> String {
-    kmac("kmacxof256", kmacxof256, 5, lengths)
+    kmac_of("kmacxof256", kmacxof256, &pattern(LIMIT + 1, 1), &mut pattern(LIMIT + 1, 5), lengths)
 }
 
 fn samples() -> String {

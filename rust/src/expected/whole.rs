@@ -23,11 +23,10 @@ fn exchange(s: &Set, [seed, _, message]: &[Vec<u8>; 3]) -> Result<Made, Refusal>
     Ok([public, secret, sealed, sent, received])
 }
 
-fn line(is_exchange: bool, number: usize, change: usize) -> String {
-    let inputs = [5, 6, 7].map(|start| pattern(32, start));
+pub fn line(is_exchange: bool, number: usize, change: usize, inputs: &[Vec<u8>; 3]) -> String {
     let passed = checked(is_exchange, number, change);
     let make = if is_exchange { exchange } else { encryption };
-    let made = passed.and_then(|s| make(&s, &inputs));
+    let made = passed.and_then(|s| make(&s, inputs));
     let mut slices = [(26913, 1), (26945, 2), (8353, 3), (33, 4), (33, 5)].map(|(length, start)| pattern(length, start));
     if let Ok(made) = &made {
         slices.iter_mut().zip(made).for_each(|(slice, made)| put(slice, made));
@@ -42,6 +41,7 @@ fn line(is_exchange: bool, number: usize, change: usize) -> String {
 }
 
 pub fn text() -> String {
-    let scheme = |is_exchange| (0..14).flat_map(move |number| (0..17).rev().map(move |change| line(is_exchange, number, change)));
-    scheme(false).chain(scheme(true)).collect()
+    let inputs = [5, 6, 7].map(|start| pattern(32, start));
+    let lines = |is_exchange, number| (0..17).rev().map(|change| line(is_exchange, number, change, &inputs)).collect::<String>();
+    [false, true].map(|is_exchange| (0..14).map(|number| lines(is_exchange, number)).collect::<String>()).concat()
 }

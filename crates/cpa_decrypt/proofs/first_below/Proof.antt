@@ -9,7 +9,7 @@ use Rattle.sets.specs.declared.Parameters.{Parameters}
 use Rattle.sets.specs.Table.{setOf}
 use Rattle.sets.proofs.Rules.{rules, byteRules}
 use Rattle.scheme.specs.Encryption.{cipherFirst}
-use Rattle.scheme.specs.Answers.{allBelow}
+use Rattle.scheme.specs.Answers.{onlyResidues}
 use Rattle.cpa_decrypt.proofs.First.{first-unpacked, cipherFirst-length, below-test}
 use Rattle.calls.proofs.Parts.{front-length, part-front, front-room}
 use Rattle.cpa_decrypt.proofs.Room.{secret-room, first-widths}
@@ -69,7 +69,7 @@ returns c =
     (c .first-at-least .ensures
     ∙ ap (passing (below (p .q)) 0)
     (part-front (at-unpack-into .unpack-into .last .1 .1 .0) _ (p .d2) (unpacked-length (at-unpack-into)) ∙ unpacked (at-unpack-into)))
-    ∙ ap (λ (p : Parameters). allBelow (p .q) numbers) (at-parameters-of .parameters-of .ensures)
+    ∙ ap (λ (p : Parameters). onlyResidues (p .q) numbers) (at-parameters-of .parameters-of .ensures)
 
 pub first-below-spec : {M : Type 1} → statement M
 first-below-spec =

@@ -6,7 +6,7 @@ use Prim.Native.Nat.{_+_, _-_, _*_, _≤_}
 use native.Mathlib.Omega.{arith}
 use lib.ListN.{length, take, drop}
 use Rattle.sets.specs.Table.{setOf}
-use Rattle.scheme.specs.Answers.{allBelow}
+use Rattle.scheme.specs.Answers.{onlyResidues}
 use Rattle.scheme.specs.Encryption.{keyNumbers}
 use Rattle.calls.proofs.Parts.{front-length}
 use Rattle.sets.proofs.Rules.{rules-of, byteRules-of}
@@ -86,7 +86,7 @@ numbers-size c = c .read-key .kept .1 .1 .0 ∙ part-size c
 
 -- the answer of the check, and the numbers
 checked : (c : tie.After-read-key)
-    → allBelow (setOf (c .before .before .before .before .before .before .before .before .before .args .set) .q)
+    → onlyResidues (setOf (c .before .before .before .before .before .before .before .before .before .args .set) .q)
     (keyNumbers (setOf (c .before .before .before .before .before .before .before .before .before .args .set))
     (c .before .before .before .before .before .before .before .before .before .args .key .now)) ≡ c .read-key .result
 checked c =

@@ -7,13 +7,13 @@ use Prim.Native.Nat.{ℕ}
 use lib.Dec.{ltb}
 use lib.ListN.{length}
 use Rattle.calls.specs.Checks.{passing, below}
-use Rattle.scheme.specs.Answers.{allBelow}
+use Rattle.scheme.specs.Answers.{onlyResidues}
 use borrow.Author.Needs.{needs}
 use Rattle.cpa_encrypt.proofs.read_key.Statement.{statement}
 use Rattle.cpa_encrypt.proofs.read_key.Tie as tie
 
 returns : tie.Need-returns
-unfolding allBelow
+unfolding onlyResidues
 returns c =
     let made = c .before .before .before .before .unpack-into .ensures in (
       ap (λ (n : ℕ). not (ltb n (length (c .before .before .before .before .unpack-into .last .1 .1 .0)))) (c .first-at-least .ensures)

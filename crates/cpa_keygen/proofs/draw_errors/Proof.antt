@@ -11,7 +11,8 @@ use Rattle.sets.specs.declared.Parameters.{Parameters}
 use Rattle.sets.specs.Table.{setOf}
 use Rattle.sets.proofs.Rules.{rules, byteRules}
 use Rattle.byte_source.specs.Source.{stateAt}
-use Rattle.samplers.specs.Seeded.{errorCount, errorsDrawn}
+use Rattle.sets.specs.Derived.{errorCount}
+use Rattle.samplers.specs.Seeded.{errorsDrawn}
 use Rattle.samplers.proofs.Laws.{errorsDrawn-length}
 use Rattle.cpa_keygen.specs.Held.{vectorsStart}
 use Rattle.cpa_keygen.proofs.Room.{vectors-room, secret-room}

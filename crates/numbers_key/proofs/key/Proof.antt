@@ -2,7 +2,6 @@
 -- Assumes nothing.
 use mathlib.Core.Path.{_≡_, sym, ap, _∙_}
 use mathlib.Core.Bool.{true}
-use Prim.Native.Nat.{_+_}
 use native.Mathlib.Nat.{mul-le-mul}
 use lib.ListN.{length}
 use native.Mathlib.Omega.{arith}
@@ -12,6 +11,7 @@ use Rattle.calls.specs.Checks.{allOf}
 use Rattle.calls.proofs.Outcome.{refused-call, accepted-call}
 use Rattle.calls.proofs.Checks.{allOf-each}
 use Rattle.sets.specs.Rules.{Rules}
+use Rattle.sets.proofs.Counts.{errors-most}
 use Rattle.sets.proofs.Rules.{rules}
 use Rattle.middle.proofs.Chained.{accepted-two}
 use Rattle.middle.proofs.OpenCall.{opening-set, opening-lengths, operand}
@@ -74,9 +74,7 @@ numbers-checked-requires c κs =
     let p = c .before .before .parameters-of .result in
     let keeps = kept c in
     let public = mul-le-mul {n₁ = p .t} {m₁ = p .n} {n₂ = 10} {m₂ = 2048} (keeps .most-t) (keeps .most-n) in
-    let errors =
-    mul-le-mul {n₁ = p .t} {m₁ = p .d + p .k} {n₂ = 10} {m₂ = 1279} (keeps .most-t) (omega (arith, keeps .most-d, keeps .most-k)) in
-    (omega (arith, eqb-true, keeps .most-n, keeps .most-k, keeps .most-d, public, errors), omega (arith, keeps .most-eta))
+    (omega (arith, eqb-true, keeps .most-n, keeps .most-k, keeps .most-d, public, errors-most p keeps), omega (arith, keeps .most-eta))
 
 fill-requires : tie.Need-fill-requires
 fill-requires c κs =

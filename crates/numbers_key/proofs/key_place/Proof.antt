@@ -1,13 +1,14 @@
 -- `numbers_key::key_place` meets its contract: a place of the product of a_i and s, and the residue of an error.
 -- Assumes nothing.
 use mathlib.Core.Path.{_≡_, refl, ap, _∙_}
-use Prim.Native.Nat.{_+_, _*_, _/_, _%_, _≤_, _<_}
+use Prim.Native.Nat.{_+_, _/_, _%_, _≤_, _<_}
 use native.Mathlib.Nat.{mod-lt}
 use native.Mathlib.Omega.{arith}
 use lib.ListN.{length, getD}
 use lib.IntN.{pos}
 use Rattle.maths.specs.Integer.{residue}
 use Rattle.maths.proofs.Integer.{residue-lt}
+use Rattle.sets.specs.Derived.{errorCount}
 use Rattle.residues.proofs.Laws.{remainder-below}
 use Rattle.calls.proofs.Region.{region-part}
 use Rattle.numbers.proofs.Size.{entry-kept}
@@ -18,11 +19,12 @@ use Rattle.numbers_key.proofs.key_place.Statement.{statement}
 use Rattle.numbers_key.proofs.key_place.Tie as tie
 
 -- the place is one of b
-inside : (c : tie.Start) → c .args .l < c .args .p .t * (c .args .p .d + c .args .p .k)
+inside : (c : tie.Start) → c .args .l < errorCount (c .args .p)
 inside c = omega (arith, c .pre .1 .errors-length, c .pre .2)
 
 -- it is in vector i of t
 index : (c : tie.Start) → c .args .l / (c .args .p .d + c .args .p .k) < c .args .p .t
+unfolding errorCount
 index c = vector-index (c .args .p .d + c .args .p .k) (c .args .p .t) (c .args .l) (omega (arith, c .pre .0 .some-d)) (inside c)
 
 product-requires : tie.Need-product-requires

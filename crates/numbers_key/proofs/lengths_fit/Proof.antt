@@ -14,19 +14,19 @@ returns-2 : tie.Need-returns-2
 returns-2 c = sym (allOf-false _ 1 (ne-eqb _ _ (c .if2 .taken)))
 
 returns-3 : tie.Need-returns-3
-returns-3 c = sym (allOf-false _ 2 (ne-eqb _ _ (rw (c .before .product2 .ensures) at (c .if3 .taken))))
+returns-3 c = sym (allOf-false _ 2 (ne-eqb _ _ (rw (c .before .error-count .ensures .0) at (c .if3 .taken))))
 
 returns-4 : tie.Need-returns-4
-returns-4 c = sym (allOf-false _ 3 (ne-eqb _ _ (rw (c .before .before .product2 .ensures) at (c .if4 .taken))))
+returns-4 c = sym (allOf-false _ 3 (ne-eqb _ _ (rw (c .before .before .error-count .ensures .0) at (c .if4 .taken))))
 
 returns-5 : tie.Need-returns-5
 returns-5 c =
-    let count = c .before .before .product2 .ensures in
-    let first = c .before .before .before .before .before .before .before .if1 .left
-    ∙ c .before .before .before .before .before .before .before .before .product .ensures in
+    let count = c .before .before .error-count .ensures .0 in
+    let at-else2 = c .before .before .before in
+    let first = at-else2 .before .before .before .if1 .left ∙ at-else2 .before .before .before .before .product .ensures in
     sym (each-allOf _ (
       eq-eqb _ _ first,
-      (eq-eqb _ _ (c .before .before .before .before .if2 .left), (eq-eqb _ _ (c .before .if3 .left ∙ count), (eq-eqb _ _ (c .if4 .left ∙ count), tt))),
+      (eq-eqb _ _ (at-else2 .if2 .left), (eq-eqb _ _ (c .before .if3 .left ∙ count), (eq-eqb _ _ (c .if4 .left ∙ count), tt))),
     ))
 
 pub lengths-fit-spec : {M : Type 1} → statement M
@@ -39,7 +39,6 @@ lengths-fit-spec =
     (λ c. search needs)
     (λ c. search needs)
     returns-2
-    (λ c. search needs)
     (λ c κs. search needs)
     returns-3
     returns-4

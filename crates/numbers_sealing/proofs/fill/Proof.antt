@@ -3,12 +3,14 @@
 use mathlib.Core.Path.{_∙_}
 use Prim.Native.Nat.{_+_}
 use native.Mathlib.Omega.{arith}
+use Rattle.sets.specs.Derived.{multiplierCount}
 use Rattle.numbers.proofs.SealingLaws.{residues-family, firstPart-from, secondPart-from}
 use borrow.Author.Needs.{needs}
 use Rattle.numbers_sealing.proofs.fill.Statement.{statement}
 use Rattle.numbers_sealing.proofs.fill.Tie as tie
 
 fill-first-requires : tie.Need-fill-first-requires
+unfolding multiplierCount
 fill-first-requires c κs =
     let at-residues-of = c .before .before .before .before in
     let start = at-residues-of .before .before .before .before .before .before .before .before in
@@ -23,6 +25,7 @@ fill-first-requires c κs =
     )
 
 fill-second-requires : tie.Need-fill-second-requires
+unfolding multiplierCount
 fill-second-requires c κs =
     let at-residues-of = c .before .before .before .before .before .before .before .before .before in
     let start = at-residues-of .before .before .before .before .before .before .before .before in

@@ -1,7 +1,6 @@
 -- `numbers_sealing::fill_both` meets its contract: the array has room for the residues of all multipliers.
 -- Assumes nothing.
 use native.Mathlib.Omega.{arith}
-use Rattle.numbers.proofs.SealingLaws.{multipliers-most}
 use borrow.Author.Needs.{needs}
 use Rattle.numbers_sealing.proofs.fill_both.Statement.{statement}
 use Rattle.numbers_sealing.proofs.fill_both.Tie as tie
@@ -9,14 +8,14 @@ use Rattle.numbers_sealing.proofs.fill_both.Tie as tie
 part-rs-end : tie.Need-part-rs-end
 part-rs-end c =
     let start = c .before .before .before .before .before in
-    omega (arith, start .pre .1 .multipliers-length, multipliers-most (start .args .p) (start .pre .0))
+    omega (arith, start .pre .1 .multipliers-length, start .pre .0 .most-multipliers)
 
 fill-requires : tie.Need-fill-requires
 fill-requires c κs =
     let start = c .before .before .before .before .before .before .before .before in (
       start .pre .0,
       start .pre .1,
-      omega (arith, start .pre .1 .multipliers-length, multipliers-most (start .args .p) (start .pre .0)),
+      omega (arith, start .pre .1 .multipliers-length, start .pre .0 .most-multipliers),
       start .pre .2,
       start .pre .3,
     )

@@ -11,10 +11,10 @@ returns : tie.Need-returns
 returns c = sym (allOf-false _ 0 (ne-eqb _ _ (rw (c .before .product .ensures) at (c .if1 .taken))))
 
 returns-2 : tie.Need-returns-2
-returns-2 c = sym (allOf-false _ 1 (ne-eqb _ _ (rw (c .before .product2 .ensures) at (c .if2 .taken))))
+returns-2 c = sym (allOf-false _ 1 (ne-eqb _ _ (rw (c .before .error-count .ensures .0) at (c .if2 .taken))))
 
 returns-3 : tie.Need-returns-3
-returns-3 c = sym (allOf-false _ 2 (ne-eqb _ _ (rw (c .before .product3 .ensures) at (c .if3 .taken))))
+returns-3 c = sym (allOf-false _ 2 (ne-eqb _ _ (rw (c .before .multiplier-count .ensures) at (c .if3 .taken))))
 
 returns-4 : tie.Need-returns-4
 returns-4 c = sym (allOf-false _ 3 (ne-eqb _ _ (c .if4 .taken)))
@@ -27,10 +27,11 @@ returns-6 c = sym (allOf-false _ 5 (ne-eqb _ _ (c .if6 .taken)))
 
 returns-7 : tie.Need-returns-7
 returns-7 c =
-    let at-else2 = c .before .before .before .before .before .before .before .before .before in
-    let first = at-else2 .before .before .before .if1 .left ∙ at-else2 .before .before .before .before .product .ensures in
-    let second = at-else2 .if2 .left ∙ at-else2 .before .product2 .ensures in
-    let third = c .before .before .before .before .before .before .if3 .left ∙ c .before .before .before .before .before .before .before .product3 .ensures in
+    let at-else2 = c .before .before .before .before .before .before .before .before in
+    let first = at-else2 .before .before .if1 .left ∙ at-else2 .before .before .before .product .ensures in
+    let second = at-else2 .if2 .left ∙ at-else2 .before .error-count .ensures .0 in
+    let at-else3 = c .before .before .before .before .before .before in
+    let third = at-else3 .if3 .left ∙ at-else3 .before .multiplier-count .ensures in
     sym (each-allOf _ (
       eq-eqb _ _ first,
       (
@@ -48,10 +49,8 @@ lengths-fit-spec =
     (tie.spec
     (λ c κs. search needs)
     returns
-    (λ c. search needs)
     (λ c κs. search needs)
     returns-2
-    (λ c. search needs)
     (λ c κs. search needs)
     returns-3
     returns-4

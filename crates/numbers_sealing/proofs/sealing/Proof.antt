@@ -2,7 +2,6 @@
 -- Assumes nothing.
 use mathlib.Core.Path.{_≡_, sym, ap, _∙_}
 use mathlib.Core.Bool.{true}
-use Prim.Native.Nat.{_+_}
 use native.Mathlib.Nat.{mul-le-mul}
 use native.Mathlib.Omega.{arith}
 use lib.ListN.{length}
@@ -17,7 +16,9 @@ use Rattle.middle.proofs.Chained.{accepted-one, accepted-two}
 use Rattle.middle.proofs.OpenCall.{opening-set, opening-lengths}
 use Rattle.numbers.specs.Calls.{sealingShape, sealingAnswer, firstPartLeft, secondPartLeft}
 use Rattle.numbers.proofs.MultiplierLaws.{accepted-multipliers}
-use Rattle.numbers.proofs.SealingLaws.{multipliers-most, sealing-numbers}
+use Rattle.sets.specs.Derived.{errorCount}
+use Rattle.sets.proofs.Counts.{errors-most}
+use Rattle.numbers.proofs.SealingLaws.{sealing-numbers}
 use borrow.Author.Needs.{needs}
 use Rattle.numbers_sealing.proofs.sealing.Statement.{statement}
 use Rattle.numbers_sealing.proofs.sealing.Tie as tie
@@ -80,11 +81,10 @@ numbers-checked-requires c κs =
     let p = c .before .before .parameters-of .result in
     let keeps = kept c in
     let public = mul-le-mul {n₁ = p .t} {m₁ = p .n} {n₂ = 10} {m₂ = 2048} (keeps .most-t) (keeps .most-n) in
-    let keys =
-    mul-le-mul {n₁ = p .t} {m₁ = p .d + p .k} {n₂ = 10} {m₂ = 1279} (keeps .most-t) (omega (arith, keeps .most-d, keeps .most-k)) in
-    (keeps, omega (arith, eqb-true, keeps .most-d, public, keys, multipliers-most p keeps))
+    (keeps, omega (arith, eqb-true, keeps .most-d, public, errors-most p keeps, keeps .most-multipliers))
 
 fill-both-requires : tie.Need-fill-both-requires
+unfolding errorCount
 fill-both-requires c κs =
     let told = c .before .before in
     let fits = fitting told in

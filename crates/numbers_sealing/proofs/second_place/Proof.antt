@@ -5,6 +5,7 @@ use native.Mathlib.Nat.{add-mod}
 use native.Mathlib.Omega.{arith}
 use Rattle.maths.proofs.Congruence.{mod-refl, mod-sym, mod-add}
 use Rattle.residues.proofs.Laws.{remainder-below}
+use Rattle.sets.specs.Derived.{multiplierCount}
 use Rattle.numbers.proofs.SealingLaws.{middles-products}
 use borrow.Author.Needs.{needs}
 use Rattle.numbers_sealing.proofs.second_place.Statement.{statement}
@@ -42,6 +43,7 @@ add-requires c κs =
     )
 
 returns : tie.Need-returns
+unfolding multiplierCount
 returns c =
     let at-half-modulus = c .before .before .before .before .before .before .before in
     let start = at-half-modulus .before .before .before .before in

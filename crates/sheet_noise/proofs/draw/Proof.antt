@@ -8,8 +8,8 @@ use lib.ListN.{length, take, drop}
 use Rattle.maths.specs.Integer.{residue}
 use Rattle.sets.specs.declared.Parameters.{Parameters}
 use Rattle.sets.specs.Table.{setOf}
-use Rattle.sets.specs.Derived.{multiplierCount}
-use Rattle.samplers.specs.Seeded.{errorCount, multipliersDrawn}
+use Rattle.sets.specs.Derived.{multiplierCount, errorCount}
+use Rattle.samplers.specs.Seeded.{multipliersDrawn}
 use Rattle.sets.proofs.Rules.{rules-of, byteRules-of}
 use Rattle.calls.proofs.Parts.{part-long}
 use Rattle.sheet_noise.proofs.Held.{work-room, multipliers-written}

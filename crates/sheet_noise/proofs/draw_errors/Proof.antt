@@ -11,7 +11,8 @@ use Rattle.sets.specs.Table.{setOf}
 use Rattle.sets.specs.Rules.{Rules, ByteRules}
 use Rattle.byte_source.specs.Source.{State, stateAt}
 use Rattle.samplers.specs.Blocks.{onward}
-use Rattle.samplers.specs.Seeded.{errorCount, errorsDrawn, secretState}
+use Rattle.sets.specs.Derived.{errorCount}
+use Rattle.samplers.specs.Seeded.{errorsDrawn, secretState}
 use Rattle.samplers.proofs.Laws.{secretState-small}
 use Rattle.scheme.specs.Encryption.{errors}
 use Rattle.sets.proofs.Rules.{rules, byteRules, rules-of, byteRules-of}

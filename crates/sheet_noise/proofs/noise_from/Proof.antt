@@ -9,9 +9,9 @@ use Rattle.maths.specs.Vector as Vector
 use Rattle.maths.specs.Integer.{residue}
 use Rattle.sets.specs.declared.Parameters.{Parameters}
 use Rattle.sets.specs.Table.{setOf}
-use Rattle.sets.specs.Derived.{multiplierCount}
+use Rattle.sets.specs.Derived.{multiplierCount, errorCount}
 use Rattle.draws.specs.Calls.{inTurn}
-use Rattle.samplers.specs.Seeded.{errorCount, multipliersDrawn}
+use Rattle.samplers.specs.Seeded.{multipliersDrawn}
 use Rattle.scheme.specs.Encryption.{errors}
 use Rattle.sets.proofs.Rules.{rules-of, byteRules-of}
 use Rattle.calls.proofs.Parts.{front-length, part-long}

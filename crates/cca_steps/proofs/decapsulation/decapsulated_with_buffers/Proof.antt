@@ -13,7 +13,7 @@ use Rattle.calls.proofs.Outcome.{refused-call}
 use Rattle.calls.proofs.Parts.{rest-whole}
 use Rattle.sets.specs.Table.{setOf}
 use Rattle.scheme.specs.Encryption.{keyNumbers}
-use Rattle.scheme.specs.Answers.{allBelow}
+use Rattle.scheme.specs.Answers.{onlyResidues}
 use Rattle.cca_steps.proofs.Steps.{numbers-refuse, draw-refuses, decapsulated-made}
 use Rattle.cca_steps.proofs.decapsulation.decapsulated_with_buffers.Statement.{statement}
 use Rattle.cca_steps.proofs.decapsulation.decapsulated_with_buffers.Tie as tie
@@ -33,15 +33,15 @@ read-of c = c .before .before .before .before .before .before
 
 -- what that check tells
 told : (c : tie.After-key-below) → let args = args-of c .args in
-    allBelow (setOf (args .set) .q) (keyNumbers (setOf (args .set)) (drop 32 (args .secret .now))) ≡ c .key-below .result
+    onlyResidues (setOf (args .set) .q) (keyNumbers (setOf (args .set)) (drop 32 (args .secret .now))) ≡ c .key-below .result
 told c =
     let args = args-of c .args in
-    let below : List ℕ → _ = λ (ls : List ℕ). allBelow (setOf (args .set) .q) (keyNumbers (setOf (args .set)) ls) in
+    let below : List ℕ → _ = λ (ls : List ℕ). onlyResidues (setOf (args .set) .q) (keyNumbers (setOf (args .set)) ls) in
     sym (c .key-below .ensures ∙ ap below (rest-whole (args .secret .now) 32))
 
 -- all numbers are below q
 passed : (c : tie.Else1) → let args = args-of (checked-of c) .args in
-    allBelow (setOf (args .set) .q) (keyNumbers (setOf (args .set)) (drop 32 (args .secret .now))) ≡ true
+    onlyResidues (setOf (args .set) .q) (keyNumbers (setOf (args .set)) (drop 32 (args .secret .now))) ≡ true
 passed c = told (checked-of c) ∙ not-false _ (c .if1 .left)
 
 returns : tie.Need-returns

@@ -7,7 +7,8 @@ use mir.Val.{SFits}
 use mir.Facts.{toZ-ofZ}
 use Rattle.sets.specs.Derived.{multiplierBytes}
 use Rattle.draws.specs.Small.{multiplierAt}
-use Rattle.draws.proofs.Positions.{place-most, lent-true, bits-most, sign-bit-most}
+use Rattle.sets.proofs.Counts.{bits-most}
+use Rattle.draws.proofs.Positions.{place-most, lent-true, sign-bit-most}
 use borrow.Author.Needs.{needs}
 use Rattle.draws.proofs.small.multiplier_at.Statement.{statement}
 use Rattle.draws.proofs.small.multiplier_at.Tie as tie

@@ -5,8 +5,7 @@ use Prim.Native.Nat.{_≤_}
 use native.Mathlib.Omega.{arith}
 use Rattle.sets.specs.declared.Parameters.{Parameters}
 use Rattle.sets.specs.Rules.{ByteRules}
-use Rattle.sets.specs.Derived.{errorDrawBytes}
-use Rattle.samplers.specs.Seeded.{errorCount}
+use Rattle.sets.specs.Derived.{errorDrawBytes, errorCount}
 use Rattle.calls.proofs.Parts.{front-length}
 use borrow.Author.Needs.{needs}
 use Rattle.run_bytes.proofs.seeded.errors_into.Statement.{statement}

@@ -1,0 +1,174 @@
+// Random calls of the middle products, and of key, sealing and reading on numbers, each on what the call before made: now and then a number is out of
+// range or a length is wrong.
+use crate::inputs;
+use crate::products;
+use crate::whole;
+use crate::whole::Row;
+use report::random;
+
+// Puts q, or up to two more, at any place, in one case of eight.
+fn put_large(values: &mut [u32], group: usize, i: usize, q: u32) {
+    let more = random::below(group, i, 24);
+    if more < 3 {
+        let place = random::below(group, i % 100 + 100, values.len());
+        inputs::put(values, place, q % 16777216 + more as u32);
+    }
+}
+
+// Puts such a number among the first n.
+fn change_first(values: &mut [u32], group: usize, i: usize, n: usize, q: u32) {
+    put_large(report::numbers_mut(values, 0, n), group, i, q);
+}
+
+// Fills numbers with residues; one of the first n may be none.
+fn fill(values: &mut [u32], group: usize, slice: usize, n: usize, q: u32) {
+    random::fill_residues(values, group, slice, q);
+    change_first(values, group, slice % 32 + 20, n, q);
+}
+
+// How many numbers a has: in one case of eight 4,096, the most that is accepted, or one less or more.
+fn length_of_a(group: usize, size: usize) -> usize {
+    let kind = random::below(group, 1, 24);
+    if kind < 3 {
+        return 4095 + kind;
+    }
+    random::below(group, 2, size)
+}
+
+// How many results are wanted: in one case of four a single one.
+fn results_wanted(group: usize, size: usize) -> usize {
+    if random::below(group, 3, 4) == 0 {
+        return 1;
+    }
+    random::below(group, 4, size / 2)
+}
+
+// The middle product of such lengths, plain and transformed; the length of b or of the work slice may be wrong.
+fn multiply(group: usize, set: usize, a: &[u32], b: &[u32]) {
+    let size = products::size_of(set);
+    let change = random::change(group, 5, 2);
+    let n = length_of_a(group, size) % 5000;
+    let results = results_wanted(group, size) % 5000;
+    let m = report::changed(inputs::before(n + results), 0, change);
+    let first = report::numbers(a, 0, n);
+    let second = report::numbers(b, 0, m);
+    products::plain(set, first, second, results);
+    products::transformed(
+        set,
+        first,
+        second,
+        results,
+        report::changed(size, 1, change),
+    );
+}
+
+// The two products of random residues of a set.
+fn middle_products(group: usize) {
+    let set = random::set(group, 0);
+    let p = products::parameters(set);
+    let mut a = [0u32; 4097];
+    let mut b = [0u32; 6000];
+    fill(&mut a, group, 1, 400, p.q);
+    fill(&mut b, group, 2, 400, p.q);
+    multiply(group, set, &a, &b);
+}
+
+// Puts a signed number at or over a bound, or 0, at any place, in one case of eight.
+fn put_around(values: &mut [i32], group: usize, i: usize, around: [i32; 4]) {
+    let kind = random::below(group, i, 40);
+    if kind < 5 {
+        let place = random::below(group, i % 100 + 100, values.len());
+        inputs::put_signed(values, place, if kind < 4 { around[kind] } else { 0 });
+    }
+}
+
+// The powers of 2 that are sizes of multipliers.
+const SIZES: [usize; 10] = [1, 2, 4, 8, 16, 32, 64, 128, 256, 512];
+
+// A number of 32 bits as a larger one.
+fn wide(x: u32) -> usize {
+    x as usize
+}
+
+// The size of so many bits.
+fn size(bits: u32) -> usize {
+    SIZES[report::at_most(wide(bits), 9)]
+}
+
+// Errors; one of those that are lent may be out of bounds.
+fn fill_errors(e: &mut [i32], group: usize, row: Row) {
+    let p = products::parameters(row.set);
+    let around = if p.eta == 1 {
+        whole::AROUND[0]
+    } else {
+        whole::AROUND[2]
+    };
+    random::fill_signed(e, group, 3, wide(p.eta), 0);
+    put_around(report::signed_mut(e, 0, row.e), group, 30, around);
+}
+
+// Multipliers, the first of which have another bound than the others; some of those that are lent may be out of bounds or 0.
+fn fill_multipliers(r: &mut [i32], group: usize, row: Row) {
+    let p = products::parameters(row.set);
+    let first = row.first;
+    let second = row.second;
+    random::fill_signed(r, group, 4, size(p.b2), 1);
+    random::fill_signed(
+        report::signed_mut(r, 0, row.position),
+        group,
+        5,
+        size(p.b1),
+        1,
+    );
+    put_around(report::signed_mut(r, 0, row.r), group, 31, first);
+    put_around(report::signed_mut(r, 0, row.r), group, 32, second);
+}
+
+// Seals a random message.
+fn seal(group: usize, row: Row, a: &[u32], b: &[u32], c1: &mut [u32], c2: &mut [u32]) {
+    let mut r = [0i32; 8193];
+    let mut message = [0u32; 257];
+    fill_multipliers(&mut r, group, row);
+    fill(&mut message, group, 6, row.message, 2);
+    whole::sealing_line(row, random::change(group, 7, 6), a, b, &r, &message, c1, c2);
+}
+
+// Seals and reads; what was sealed may be damaged between.
+fn seal_and_read(group: usize, row: Row, a: &[u32], b: &[u32], s: &[u32]) {
+    let mut c1 = [7u32; 3072];
+    let mut c2 = [7u32; 257];
+    seal(group, row, a, b, &mut c1, &mut c2);
+    change_first(&mut c1, group, 33, row.c1, row.q);
+    change_first(&mut c2, group, 34, row.message, row.q);
+    whole::reading_line(row, random::change(group, 8, 4), &c1, &c2, s);
+}
+
+// Key, sealing and reading; the key may be damaged once it is made.
+fn numbers(group: usize, row: Row) {
+    let mut a = [0u32; 16385];
+    let mut s = [0u32; 3327];
+    let mut e = [0i32; 10233];
+    fill(&mut a, group, 1, row.a, row.q);
+    fill(&mut s, group, 2, row.s, row.q);
+    fill_errors(&mut e, group, row);
+    let mut b = whole::key_of(row, random::change(group, 6, 4), &a, &s, &e);
+    change_first(&mut b, group, 35, row.e, row.q);
+    seal_and_read(group, row, &a, &b, &s);
+}
+
+// The calls of one round, in two groups of which each has random numbers of its own.
+fn round(i: usize) {
+    let group = 8 * (i % 128);
+    report::round(i);
+    middle_products(group + 2);
+    numbers(group + 3, whole::row_of(random::set(group + 3, 0)));
+}
+
+// Twenty rounds.
+pub fn rounds() {
+    let mut i: usize = 0;
+    while i < 20 {
+        round(i);
+        i += 1;
+    }
+}

@@ -1,0 +1,232 @@
+//! What the programs print of their rounds of random calls.
+
+use super::cases::{self, Case};
+use super::report::changed;
+use super::{draws, middle, numbers, sheets, sponge, whole};
+use crate::parameters::set;
+use crate::sponge::{kmac256, kmacxof256};
+
+const ROUNDS: usize = 20;
+
+/// The generator of a group of calls: a number is found from where it is wanted, so it rests on no answer.
+struct Group(usize);
+
+impl Group {
+    /// Number `i` for slice `slice`, of 24 bits.
+    fn number(&self, slice: usize, i: usize) -> usize {
+        let after = |x: u64| (x * 1103515245 + 12345) % (1 << 31);
+        let squared = |x: u64| x * (2 * x + 1) % (1 << 31);
+        let mixed = |x: u64| squared(x) >> 15 | (squared(x) & 0x7fff) << 16;
+        let start = (i << 15 | slice << 10 | self.0) as u64;
+        (after(mixed(after(mixed(after(start % (1 << 31)))))) >> 7) as usize
+    }
+
+    fn below(&self, i: usize, limit: usize) -> usize {
+        self.number(0, i).checked_rem(limit).unwrap_or(0)
+    }
+
+    fn one_in(&self, i: usize, cases: usize) -> bool {
+        self.below(i, cases) == 0
+    }
+
+    /// A set from 0 to 13.
+    fn set(&self, i: usize) -> usize {
+        self.below(i, 14)
+    }
+
+    /// Which length of a call with so many slices is changed: one more or one less (1 to 19), or an empty slice (20 and on).
+    fn change(&self, i: usize, slices: usize) -> usize {
+        match self.below(i, 60) {
+            change @ 0..20 if change <= 2 * slices => change,
+            change @ 20.. if change < 20 + slices => change,
+            _ => 0,
+        }
+    }
+
+    fn bytes(&self, slice: usize, length: usize) -> Vec<u8> {
+        (0..length).map(|i| self.number(slice, i) as u8).collect()
+    }
+
+    /// Residues; seldom one of the first `count` is q, or up to two more.
+    fn residues(&self, slice: usize, length: usize, count: usize, q: u64) -> Vec<u32> {
+        let mut values: Vec<u32> = (0..length).map(|i| (self.number(slice, i) as u64 % q) as u32).collect();
+        self.put_large(&mut values[..count], slice + 20, q);
+        values
+    }
+
+    fn put_large(&self, values: &mut [u32], i: usize, q: u64) {
+        let more = self.below(i, 24);
+        if more < 3 {
+            values[self.below(i + 100, values.len())] = q as u32 + more as u32;
+        }
+    }
+
+    /// Signed numbers of at most a size, with another in place of 0.
+    fn signed(&self, slice: usize, length: usize, size: u32, zero: i32) -> Vec<i32> {
+        let around = |i| (self.number(slice, i) % (2 * size as usize + 1)) as i32 - size as i32;
+        (0..length).map(|i| if around(i) == 0 { zero } else { around(i) }).collect()
+    }
+
+    /// Seldom puts a number at or over a bound, or 0, at any place.
+    fn put_around(&self, values: &mut [i32], i: usize, size: u32) {
+        let size = size as i32;
+        if let Some(&value) = [size, -size, size + 1, -size - 1, 0].get(self.below(i, 40)) {
+            values[self.below(i + 100, values.len())] = value;
+        }
+    }
+
+    /// Damages bytes by kind: all of them, a number at a place, three bytes, one bit, or nothing.
+    fn damage(&self, bytes: &mut [u8], i: usize, first: usize, q: usize) {
+        let (place, bit) = (self.below(i + 100, bytes.len()), self.below(i + 200, 8));
+        match self.below(i, 20) {
+            0 => bytes.copy_from_slice(&self.bytes(i, bytes.len())),
+            1 => put_number(bytes, first, q - 1),
+            2 | 3 => put_number(bytes, first, q),
+            4 | 5 => put_number(bytes, place, 0xffffff),
+            6..=9 => bytes[place] ^= 1 << bit,
+            _ => (),
+        }
+    }
+}
+
+/// Puts the lowest 24 bits of a number, as many of the three bytes as there are.
+fn put_number(bytes: &mut [u8], place: usize, value: usize) {
+    for (byte, digit) in bytes.iter_mut().skip(place).zip(&value.to_le_bytes()[..3]) {
+        *byte = *digit;
+    }
+}
+
+fn hashes(group: &Group, bytes: &[u8]) -> String {
+    let length = |i| match group.below(i, 20) {
+        kind if kind < 2 => 65536 + kind,
+        _ => group.below(i + 100, 600),
+    };
+    let mut out = vec![7; 65537];
+    let shake = sponge::shake_of(bytes, &mut out, [0, 1].map(length));
+    let kmac = sponge::kmac_of("kmac256", kmac256, bytes, &mut out, [2, 3, 4, 5].map(length));
+    shake + &kmac + &sponge::kmac_of("kmacxof256", kmacxof256, bytes, &mut out, [6, 7, 8, 9].map(length))
+}
+
+fn drawn(group: &Group, mut bytes: Vec<u8>) -> String {
+    let wanted = |i| match group.below(i, 24) {
+        kind if kind < 3 => 4095 + kind,
+        _ => group.below(i + 100, 200),
+    };
+    let lent = |i, enough, more| match group.one_in(i, 4) {
+        true => group.below(i + 100, 2 * enough + 1),
+        false => enough + group.below(i + 100, more),
+    };
+    let (first, aside, count) = (group.below(0, 20), group.below(1, 8), wanted(2));
+    let aside = if aside < 4 { 126 + aside } else { 0 };
+    draws::set_aside(&mut bytes, first, aside);
+    let text = draws::residues_of(&bytes, &mut [7; 4097], group.set(4), [lent(3, 3 * count, 1200), count, first, aside]);
+    let (mut out, count, number) = ([7; 4097], wanted(5), group.set(8));
+    let text = text + &draws::errors_of(&bytes, &mut out, group.set(7), lent(6, count, 2), count);
+    let s = set(number.clamp(1, 12)).unwrap();
+    let enough = s.multipliers() * s.multiplier_bytes() + s.multipliers() / 8;
+    let case = [lent(9, enough, 500), group.below(10, s.multipliers()), wanted(11)];
+    text + &draws::multipliers_of(&bytes, &mut out, number, case)
+}
+
+fn middle_products(group: &Group) -> String {
+    let number = group.set(0);
+    let s = set(number).or(set(0)).unwrap();
+    let size = s.sizes[2];
+    let n = match group.below(1, 24) {
+        kind if kind < 3 => 4095 + kind,
+        _ => group.below(2, size),
+    };
+    let results = if group.one_in(3, 4) { 1 } else { group.below(4, size / 2) };
+    let [m, work] = changed([(n + results).saturating_sub(1), size], group.change(5, 2));
+    let (a, b) = (group.residues(1, 4097, 400, s.q), group.residues(2, 6000, 400, s.q));
+    let run = middle::Run { number, size, a, b };
+    run.line("plain", [n, m, results], None) + &run.transformed([n, m, results], work)
+}
+
+fn key_sealing_reading(group: &Group) -> String {
+    let number = group.set(0);
+    let p = set(number).or(set(0)).unwrap();
+    let row = numbers::Row { number, s: p };
+    let (secret, count, multipliers) = (p.n + p.d + p.k - 1, p.t * (p.d + p.k), p.multipliers());
+    let (a, s) = (group.residues(1, 16385, p.t * p.n, p.q), group.residues(2, 3327, secret, p.q));
+    let mut e = group.signed(3, 10233, p.eta, 0);
+    group.put_around(&mut e[..count], 30, p.eta);
+    let (key, mut b) = row.key_of(group.change(6, 4), &a, &s, &e);
+    group.put_large(&mut b[..count], 35, p.q);
+    let mut r = group.signed(4, 8193, 1 << p.b2, 1);
+    r[..p.first_bound].copy_from_slice(&group.signed(5, p.first_bound, 1 << p.b1, 1));
+    group.put_around(&mut r[..multipliers], 31, 1 << p.b1);
+    group.put_around(&mut r[..multipliers], 32, 1 << p.b2);
+    let message = group.residues(6, 257, p.d, 2);
+    let (sealing, [mut c1, mut c2]) = row.sealing_of(group.change(7, 6), &a, &b, &r, &message);
+    group.put_large(&mut c1[..p.n + p.k], 33, p.q);
+    group.put_large(&mut c2[..p.d], 34, p.q);
+    key + &sealing + &row.reading_of(group.change(8, 4), &c1, &c2, &s)
+}
+
+/// Key, sealing and opening in one scheme, then all steps in one call.
+fn scheme_calls(group: &Group, is_exchange: bool) -> String {
+    let any = group.set(0);
+    let number = if group.one_in(1, 4) { any } else { any % 6 + if is_exchange { 7 } else { 1 } };
+    let bytes = group.bytes(1, 96);
+    let inputs = [0, 32, 64].map(|from| bytes[from..from + 32].to_vec());
+    let [public, secret, sealed, _, q] = cases::SETS[number];
+    let mut case = Case::new(is_exchange, number, inputs.clone());
+    let mut text = case.key(group.change(2, 4));
+    let damaged = group.below(7, 4);
+    if damaged == 0 {
+        group.damage(&mut case.public[..public], 10, 32, q);
+    }
+    text += &case.seal(group.change(3, 5));
+    match damaged {
+        0 => (),
+        1 => group.damage(&mut case.secret[..secret], 10, 64, q),
+        _ => group.damage(&mut case.sealed[..sealed], 10, 0, q),
+    }
+    text + &case.open(group.change(6, 4)) + &whole::line(is_exchange, number, group.change(5, 8), &inputs)
+}
+
+/// Byte `place` of an input of set 0, within its range: a and s, then e, then r, then the message.
+fn bench_byte(place: usize, x: u8) -> u8 {
+    match place {
+        0..=6 => x % 17,
+        7..=9 => [0, 1, 255][x as usize % 3],
+        10..=11 => [1, 255, 2, 254, 1][x as usize % 5],
+        _ => x % 2,
+    }
+}
+
+fn sheet_calls(group: &Group) -> String {
+    let number = group.below(0, 8);
+    let right = if number == 0 { 14 } else { 97 };
+    let mut input = group.bytes(1, 98);
+    if number == 0 {
+        input = input.iter().enumerate().map(|(place, &x)| bench_byte(place, x)).collect();
+    }
+    input[0] = number as u8;
+    if group.one_in(1, 4) {
+        input[group.below(2, right)] = group.below(3, 256) as u8;
+    }
+    let lengths = changed([1024, 22521, right], group.change(4, 3));
+    let input = &input[..lengths[2]];
+    crate::sheet::sheet(input) + &sheets::lent(input, [lengths[0], lengths[1]])
+}
+
+fn rounds(calls: impl Fn(usize) -> String) -> String {
+    (0..ROUNDS).map(|i| format!("round {i}\n") + &calls(8 * i)).collect()
+}
+
+pub fn bytes() -> String {
+    rounds(|first| {
+        let bytes = Group(first).bytes(1, 65537);
+        hashes(&Group(first), &bytes) + &drawn(&Group(first + 1), bytes)
+    })
+}
+
+pub fn arithmetic() -> String {
+    rounds(|first| middle_products(&Group(first + 2)) + &key_sealing_reading(&Group(first + 3)))
+}
+
+pub fn scheme() -> String {
+    rounds(|first| scheme_calls(&Group(first + 4), false) + &scheme_calls(&Group(first + 5), true) + &sheet_calls(&Group(first + 6)))
+}
