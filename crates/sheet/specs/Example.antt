@@ -37,10 +37,11 @@ sheetOf-example :
     48 ∷ 32 ∷ 45 ∷ 50 ∷ 32 ∷ 49 ∷ 32 ∷ 49 ∷ 10 ∷
     49 ∷ 32 ∷ 45 ∷ 49 ∷ 32 ∷ 48 ∷ 32 ∷ 48 ∷ 10 ∷
     99 ∷ 101 ∷ 105 ∷ 108 ∷ 105 ∷ 110 ∷ 103 ∷ 32 ∷ 52 ∷ 32 ∷ 104 ∷ 97 ∷ 108 ∷ 102 ∷ 32 ∷ 56 ∷ 10 ∷ []
-unfolding sheetOf sheetAnswer inputAnswer setByte hasSheet inputBytes rowsAnswer rowsText rowNoise rowSent rowRead ceiling halfModulus none table setOf
-    bench.benchAnswer bench.benchFits bench.signed handedIn inTurn refuseFirst passing multiplierBound multiplierBits region
-    numbersNoise productℤ sumℤ joined tabulate sum product middleProduct residue floorBit keyPart key sumOfProducts firstPart sumOfMiddles
-    secondPart opened roundedBit reading sheetText header rows row lastLine ceilingWord halfWord shown ordered inserted insert before sizeAt decimal.signed decimal.decimal decimal.digits
+unfolding sheetOf sheetAnswer inputAnswer setByte hasSheet inputBytes rowsAnswer rowsText rowNoise rowSent rowRead ceiling halfModulus none table
+    setOf bench.benchAnswer bench.benchFits bench.signed handedIn inTurn refuseFirst passing multiplierBound multiplierBits region numbersNoise
+    productℤ sumℤ joined tabulate sum product middleProduct residue floorBit keyPart key sumOfProducts firstPart sumOfMiddles secondPart opened
+    roundedBit reading sheetText header rows row lastLine ceilingWord halfWord shown ordered inserted insert before sizeAt decimal.signed
+    decimal.decimal decimal.digits
 sheetOf-example = refl
 
 -- refused 2 0, for an empty input
