@@ -4,6 +4,7 @@ use libc::STDOUT_FILENO;
 ghost use Prim.Native.Nat.{ℕ, _+_, _*_, _<_, _≤_};
 ghost use lib.ListN.{length, getD};
 
+pub mod lengths;
 pub mod random;
 
 // Prints a text as it is.
@@ -17,6 +18,20 @@ pub fn number(n: u64) {
     io::print_decimal(STDOUT_FILENO, n);
 }
 
+// The same of a number of 32 bits.
+pub fn word(x: u32) {
+    number(x as u64);
+}
+
+// Prints numbers, each after a space.
+pub fn words(values: &[u32]) {
+    let mut i: usize = 0;
+    while i < values.len() {
+        word(values[i]);
+        i += 1;
+    }
+}
+
 // Ends the line.
 pub fn end() {
     text(b"\n");
@@ -27,6 +42,11 @@ fn wide(x: u8) -> u64
     ensures { λ r. ⌜ r < 256 ⌝ }
 {
     x as u64
+}
+
+// A byte as a count.
+pub fn count(x: u8) -> usize {
+    x as usize
 }
 
 // Prints a space and bytes, each as two hexadecimal digits.
@@ -88,6 +108,12 @@ pub fn number_sum(values: &[u32]) {
     number(sum);
 }
 
+// Ends a line with the checksum of the work slice.
+pub fn work_end(work: &[u32]) {
+    number_sum(work);
+    end();
+}
+
 // A signed number raised by 2^24, so that it has no sign; one of a size above 1,000, which no error and no multiplier has, counts as 0.
 fn raised(x: i32) -> u64
     ensures { λ r. ⌜ r < 4294967296 ⌝ }
@@ -131,6 +157,19 @@ fn fill_ones(bytes: &mut [u8]) {
     let mut i: usize = 0;
     while i < bytes.len() {
         bytes[i] = 255;
+        i += 1;
+    }
+}
+
+// Fills bytes with others, again and again; a copy where there are as many.
+pub fn repeat(bytes: &mut [u8], others: &[u8]) {
+    let n = others.len();
+    if n == 0 {
+        return;
+    }
+    let mut i: usize = 0;
+    while i < bytes.len() {
+        bytes[i] = byte_at(others, i % n);
         i += 1;
     }
 }

@@ -46,6 +46,19 @@ pub fn set(group: usize, i: usize) -> usize {
     below(group, i, 14)
 }
 
+// A set for a call of one of the two schemes, most often one of its own.
+pub fn scheme_set(is_exchange: bool, group: usize) -> usize {
+    let any = set(group, 0);
+    if below(group, 1, 4) == 0 {
+        return any;
+    }
+    if is_exchange {
+        any % 6 + 7
+    } else {
+        any % 6 + 1
+    }
+}
+
 // Which length of a call with so many slices is changed, in the numbers of `changed`; most often none is.
 pub fn change(group: usize, i: usize, slices: usize) -> usize {
     let change = below(group, i, 60);

@@ -11,40 +11,46 @@ mod whole;
 
 use libc::STDIN_FILENO;
 
-// Part number i: a known case, or a tie (two for each set), or a line of the encryption scheme, or one of the key exchange, or all steps in one call.
-fn part(i: usize, input: &[u8], public: &mut [u8], secret: &mut [u8], sealed: &mut [u8]) {
-    if i < 6 {
-        known::run(report::part(input, 97 * i, 97));
-    } else if i < 30 {
-        ties::run(i / 2 - 2, report::part(input, 450 + 22 * i, 22));
-    } else if i < 2046 {
-        cases::line(1038 <= i, (i - 30) % 1008, public, secret, sealed);
+// What comes after the schemes: the sheets, a sheet in slices of other lengths, a sealing at a bound, or a round of random calls.
+fn sheet_part(i: usize, input: &[u8], store: &mut [u8]) {
+    if i < 1 {
+        sheets::print_sheets(report::part(input, 1110, 65536));
+    } else if i < 6 {
+        sheets::bench_lent(i - 1);
+    } else if i < 15 {
+        sheets::print_bound(i - 6);
     } else {
-        whole::line(2284 <= i, (i - 2046) % 238, public, secret, sealed);
+        damage::round(i - 15, store);
     }
 }
 
-// The known cases and the ties, then all lines of both schemes.
-fn parts(input: &[u8], public: &mut [u8], secret: &mut [u8], sealed: &mut [u8]) {
+// Part number i: a known case, or a tie (two for each set), or a line of the encryption scheme, or one of the key exchange, or all steps in one call.
+fn part(i: usize, input: &[u8], store: &mut [u8]) {
+    if i < 6 {
+        known::run(report::part(input, 97 * i, 97), store);
+    } else if i < 30 {
+        ties::run(i / 2 - 2, report::part(input, 450 + 22 * i, 22));
+    } else if i < 2046 {
+        cases::line(1038 <= i, (i - 30) % 1008, store);
+    } else if i < 2522 {
+        whole::line(2284 <= i, (i - 2046) % 238);
+    } else {
+        sheet_part(i - 2522, input, store);
+    }
+}
+
+// All parts; the rounds are twenty.
+fn parts(input: &[u8], store: &mut [u8]) {
     let mut i: usize = 0;
-    while i < 2522 {
-        part(i, input, public, secret, sealed);
+    while i < 2557 {
+        part(i, input, store);
         i += 1;
     }
 }
 
-// The parts from what was read, then the sheets.
-fn run(input: &[u8]) {
-    let mut public = [0u8; 26913];
-    let mut secret = [0u8; 26945];
-    let mut sealed = [0u8; 8353];
-    parts(input, &mut public, &mut secret, &mut sealed);
-    sheets::run(report::part(input, 1110, 65536));
-}
-
 fn main() {
     let mut input = io::large_buffer();
+    let mut store = [0u8; schemes::END];
     let end = io::read_full(STDIN_FILENO, &mut input);
-    run(report::front(&input, end));
-    damage::rounds();
+    parts(report::front(&input, end), &mut store);
 }

@@ -1,21 +1,5 @@
 // The numbers of c2 before packing, which no open call shows.
 
-// Prints a space and a number.
-fn print(x: u32) {
-    report::number(x as u64);
-}
-
-// Prints a name and numbers.
-pub fn line(name: &[u8], values: &[u32]) {
-    report::text(name);
-    let mut i: usize = 0;
-    while i < values.len() {
-        print(values[i]);
-        i += 1;
-    }
-    report::end();
-}
-
 // Writes them, where every slice has the set's length and every number of the public key is a residue.
 pub fn write(
     set: usize,

@@ -8,11 +8,10 @@ use Rattle.run_scheme.proofs.parts.Statement.{statement}
 use Rattle.run_scheme.proofs.parts.Tie as tie
 
 abbrev Inv-loop : tie.InvT-loop
-Inv-loop input public₀ secret₀ sealed₀ i₀ public secret sealed i = (length public ≡ length public₀) × (length secret ≡ length secret₀)
-    × (length sealed ≡ length sealed₀)
+Inv-loop input store₀ i₀ store i = length store ≡ length store₀
 
 abbrev μ-loop : tie.MeasureT-loop
-μ-loop input public₀ secret₀ sealed₀ i₀ public secret sealed i = 2522 - i
+μ-loop input store₀ i₀ store i = 2557 - i
 
 pub parts-spec : {M : Type 1} → statement M
 parts-spec =
@@ -22,8 +21,6 @@ parts-spec =
     μ-loop
     (λ c. search needs)
     (λ c κs. search needs)
-    (λ c. search needs)
-    (λ c. search needs)
     (λ c. search needs)
     (λ c. search needs)
     (λ c. search needs)

@@ -9,10 +9,10 @@ use Rattle.run_scheme.proofs.damage.bring_into_range.Statement.{stateme
 use Rattle.run_scheme.proofs.damage.bring_into_range.Tie as tie
 
 abbrev Inv-loop : tie.InvT-loop
-Inv-loop input₀ i₀ input i = (i ≤ length input) × (length input ≡ length input₀)
+Inv-loop set input₀ i₀ input i = (i ≤ length input) × (length input ≡ length input₀)
 
 abbrev μ-loop : tie.MeasureT-loop
-μ-loop input₀ i₀ input i = length input - i
+μ-loop set input₀ i₀ input i = length input - i
 
 loop-less : tie.Need-loop-less Inv-loop μ-loop
 loop-less c = simp length-set (omega arith)
@@ -26,6 +26,7 @@ bring-into-range-spec =
     (tie.spec
     Inv-loop
     μ-loop
+    (λ c. search needs)
     (λ c. search needs)
     (λ c. search needs)
     (λ c κs. search needs)

@@ -1,24 +1,23 @@
--- `unpacked::line` reads within its slice, and ends.
+-- `report::words` reads within its slice, and ends.
 -- Assumes nothing.
 use Prim.Native.Nat.{_-_, _≤_}
 use lib.ListN.{length}
 use borrow.Author.Needs.{needs}
-use Rattle.run_scheme.proofs.unpacked.line.Statement.{statement}
-use Rattle.run_scheme.proofs.unpacked.line.Tie as tie
+use Rattle.report.proofs.words.Statement.{statement}
+use Rattle.report.proofs.words.Tie as tie
 
 abbrev Inv-loop : tie.InvT-loop
-Inv-loop name values i₀ i = i ≤ length values
+Inv-loop values i₀ i = i ≤ length values
 
 abbrev μ-loop : tie.MeasureT-loop
-μ-loop name values i₀ i = length values - i
+μ-loop values i₀ i = length values - i
 
-pub line-spec : {M : Type 1} → statement M
-line-spec =
+pub words-spec : {M : Type 1} → statement M
+words-spec =
     tie.close
     (tie.spec
     Inv-loop
     μ-loop
-    (λ c κs. search needs)
     (λ c. search needs)
     (λ c. search needs)
     (λ c. search needs)
@@ -26,5 +25,4 @@ line-spec =
     (λ c. search needs)
     (λ c. search needs)
     (λ c. search needs)
-    (λ c κs. search needs)
     (λ c. search needs))

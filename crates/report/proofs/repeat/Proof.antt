@@ -1,12 +1,12 @@
--- `ties::repeat` writes within its slice, and ends.
+-- `report::repeat` writes within its slice, and ends.
 -- Assumes nothing.
 use mathlib.Core.Path.{_≡_}
 use Prim.Native.Nat.{_-_, _≤_, _<_}
 use lib.ListN.{length, length-set}
 use native.Mathlib.Omega.{arith}
 use borrow.Author.Needs.{needs}
-use Rattle.run_scheme.proofs.ties.repeat.Statement.{statement}
-use Rattle.run_scheme.proofs.ties.repeat.Tie as tie
+use Rattle.report.proofs.repeat.Statement.{statement}
+use Rattle.report.proofs.repeat.Tie as tie
 
 abbrev Inv-loop : tie.InvT-loop
 Inv-loop bytes₀ others n i₀ bytes i = (i ≤ length bytes) × (length bytes ≡ length bytes₀) × (0 < n)
