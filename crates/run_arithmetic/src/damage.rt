@@ -4,6 +4,7 @@ use crate::inputs;
 use crate::products;
 use crate::whole;
 use crate::whole::Row;
+use crate::whole::Sealed;
 use report::random;
 
 // Puts q, or up to two more, at any place, in one case of eight.
@@ -44,33 +45,29 @@ fn results_wanted(group: usize, size: usize) -> usize {
 }
 
 // The middle product of such lengths, plain and transformed; the length of b or of the work slice may be wrong.
-fn multiply(group: usize, set: usize, a: &[u32], b: &[u32]) {
+fn multiply(group: usize, set: usize, a: [u32; 6000], b: [u32; 6000]) {
     let size = products::size_of(set);
     let change = random::change(group, 5, 2);
     let n = length_of_a(group, size) % 5000;
     let results = results_wanted(group, size) % 5000;
     let m = report::changed(inputs::before(n + results), 0, change);
-    let first = report::numbers(a, 0, n);
-    let second = report::numbers(b, 0, m);
-    products::plain(set, first, second, results);
-    products::transformed(
-        set,
-        first,
-        second,
-        results,
-        report::changed(size, 1, change),
-    );
+    let lengths = [n, m, results];
+    products::plain(set, a, b, lengths);
+    products::transformed(set, a, b, lengths, report::changed(size, 1, change));
+}
+
+// Residues for the products; one of the first 400 may be none.
+fn factor(group: usize, slice: usize, q: u32) -> [u32; 6000] {
+    let mut values = [0u32; 6000];
+    fill(&mut values, group, slice, 400, q);
+    values
 }
 
 // The two products of random residues of a set.
 fn middle_products(group: usize) {
     let set = random::set(group, 0);
     let p = products::parameters(set);
-    let mut a = [0u32; 4097];
-    let mut b = [0u32; 6000];
-    fill(&mut a, group, 1, 400, p.q);
-    fill(&mut b, group, 2, 400, p.q);
-    multiply(group, set, &a, &b);
+    multiply(group, set, factor(group, 1, p.q), factor(group, 2, p.q));
 }
 
 // Puts a signed number at or over a bound, or 0, at any place, in one case of eight.
@@ -95,65 +92,75 @@ fn size(bits: u32) -> usize {
     SIZES[report::at_most(wide(bits), 9)]
 }
 
+// Polynomials a; one of the numbers may be no residue.
+fn polynomials(group: usize, row: Row) -> [u32; 16385] {
+    let mut a = [0u32; 16385];
+    fill(&mut a, group, 1, row.a, row.q);
+    a
+}
+
+// A secret s, the same.
+fn secret(group: usize, row: Row) -> [u32; 3327] {
+    let mut s = [0u32; 3327];
+    fill(&mut s, group, 2, row.s, row.q);
+    s
+}
+
+// A message; one of the bits may be none.
+fn message_bits(group: usize, row: Row) -> [u32; 257] {
+    let mut message = [0u32; 257];
+    fill(&mut message, group, 6, row.message, 2);
+    message
+}
+
 // Errors; one of those that are lent may be out of bounds.
-fn fill_errors(e: &mut [i32], group: usize, row: Row) {
+fn errors(group: usize, row: Row) -> [i32; 10233] {
     let p = products::parameters(row.set);
-    let around = if p.eta == 1 {
-        whole::AROUND[0]
-    } else {
-        whole::AROUND[2]
-    };
-    random::fill_signed(e, group, 3, wide(p.eta), 0);
-    put_around(report::signed_mut(e, 0, row.e), group, 30, around);
+    let around = whole::error_bounds(row.set);
+    let mut e = [0i32; 10233];
+    random::fill_signed(&mut e, group, 3, wide(p.eta), 0);
+    put_around(report::signed_mut(&mut e, 0, row.e), group, 30, around);
+    e
 }
 
 // Multipliers, the first of which have another bound than the others; some of those that are lent may be out of bounds or 0.
-fn fill_multipliers(r: &mut [i32], group: usize, row: Row) {
+fn multipliers(group: usize, row: Row) -> [i32; 8193] {
     let p = products::parameters(row.set);
     let first = row.first;
     let second = row.second;
-    random::fill_signed(r, group, 4, size(p.b2), 1);
+    let mut r = [0i32; 8193];
+    random::fill_signed(&mut r, group, 4, size(p.b2), 1);
     random::fill_signed(
-        report::signed_mut(r, 0, row.position),
+        report::signed_mut(&mut r, 0, row.position),
         group,
         5,
         size(p.b1),
         1,
     );
-    put_around(report::signed_mut(r, 0, row.r), group, 31, first);
-    put_around(report::signed_mut(r, 0, row.r), group, 32, second);
+    put_around(report::signed_mut(&mut r, 0, row.r), group, 31, first);
+    put_around(report::signed_mut(&mut r, 0, row.r), group, 32, second);
+    r
 }
 
-// Seals a random message.
-fn seal(group: usize, row: Row, a: &[u32], b: &[u32], c1: &mut [u32], c2: &mut [u32]) {
-    let mut r = [0i32; 8193];
-    let mut message = [0u32; 257];
-    fill_multipliers(&mut r, group, row);
-    fill(&mut message, group, 6, row.message, 2);
-    whole::sealing_line(row, random::change(group, 7, 6), a, b, &r, &message, c1, c2);
-}
-
-// Seals and reads; what was sealed may be damaged between.
-fn seal_and_read(group: usize, row: Row, a: &[u32], b: &[u32], s: &[u32]) {
-    let mut c1 = [7u32; 3072];
-    let mut c2 = [7u32; 257];
-    seal(group, row, a, b, &mut c1, &mut c2);
+// Reads what was sealed, which may be damaged before.
+fn read(group: usize, row: Row, sealed: Sealed, s: [u32; 3327]) {
+    let mut c1 = sealed.c1;
+    let mut c2 = sealed.c2;
     change_first(&mut c1, group, 33, row.c1, row.q);
     change_first(&mut c2, group, 34, row.message, row.q);
-    whole::reading_line(row, random::change(group, 8, 4), &c1, &c2, s);
+    whole::reading_of(row, random::change(group, 8, 4), c1, c2, s);
 }
 
 // Key, sealing and reading; the key may be damaged once it is made.
 fn numbers(group: usize, row: Row) {
-    let mut a = [0u32; 16385];
-    let mut s = [0u32; 3327];
-    let mut e = [0i32; 10233];
-    fill(&mut a, group, 1, row.a, row.q);
-    fill(&mut s, group, 2, row.s, row.q);
-    fill_errors(&mut e, group, row);
-    let mut b = whole::key_of(row, random::change(group, 6, 4), &a, &s, &e);
+    let a = polynomials(group, row);
+    let s = secret(group, row);
+    let mut b = whole::key_of(row, random::change(group, 6, 4), a, s, errors(group, row));
     change_first(&mut b, group, 35, row.e, row.q);
-    seal_and_read(group, row, &a, &b, &s);
+    let r = multipliers(group, row);
+    let message = message_bits(group, row);
+    let sealed = whole::sealing_of(row, random::change(group, 7, 6), a, b, r, message);
+    read(group, row, sealed, s);
 }
 
 // The calls of one round, in two groups of which each has random numbers of its own.

@@ -20,74 +20,58 @@ pub fn size_of(set: usize) -> usize
     report::at_most(p.d3, 3328)
 }
 
-// Prints the set and the lengths of a case.
-fn case(set: usize, a: usize, b: usize, results: usize) {
+// Prints the name of a product, its set and its lengths: of a, of b and of the result.
+fn case(name: &[u8], set: usize, lengths: [usize; 3]) {
+    report::text(name);
     report::number(set as u64);
-    report::number(a as u64);
-    report::number(b as u64);
-    report::number(results as u64);
+    report::number(lengths[0] as u64);
+    report::number(lengths[1] as u64);
+    report::number(lengths[2] as u64);
 }
 
-// A plain middle product; the checksum covers the numbers past the results too, which stay as they were.
-fn plain_with_buffers(set: usize, a: &[u32], b: &[u32], out: &mut [u32], results: usize) {
-    let answer = middle::middle_product(set, a, b, report::numbers_mut(out, 0, results));
-    report::text(b"plain");
-    case(set, a.len(), b.len(), results);
-    report::answer(answer);
-    report::number_sum(out);
-    report::end();
-}
-
-// The same into numbers of its own.
-pub fn plain(set: usize, a: &[u32], b: &[u32], results: usize) {
+// A plain middle product of the first numbers of `a` and of `b`; the checksum covers the numbers past the results too, which stay as they were.
+pub fn plain(set: usize, a: [u32; 6000], b: [u32; 6000], lengths: [usize; 3]) {
     let mut out = [7u32; 4097];
-    plain_with_buffers(set, a, b, &mut out, results);
+    let answer = middle::middle_product(
+        set,
+        report::numbers(&a, 0, lengths[0]),
+        report::numbers(&b, 0, lengths[1]),
+        report::numbers_mut(&mut out, 0, lengths[2]),
+    );
+    case(b"plain", set, lengths);
+    report::answer(answer);
+    report::number_sum(&out);
+    report::end();
 }
 
 // Prints the answer of a transformed middle product and the checksums of its results and of the work slice.
-fn left(lent: usize, answer: Answer, out: &[u32], work: &[u32]) {
+fn left(lent: usize, answer: Answer, out: [u32; 4097], work: [u32; 4097]) {
     report::number(lent as u64);
     report::answer(answer);
-    report::number_sum(out);
-    report::number_sum(work);
+    report::number_sum(&out);
+    report::number_sum(&work);
     report::end();
 }
 
-// A transformed middle product of so many results, with a work slice that is lent in part.
-fn multiply(
-    set: usize,
-    a: &[u32],
-    b: &[u32],
-    out: &mut [u32],
-    results: usize,
-    work: &mut [u32],
-    lent: usize,
-) -> Answer {
-    ntt_middle::middle_product(
-        set,
-        a,
-        b,
-        report::numbers_mut(out, 0, results),
-        report::numbers_mut(work, 0, lent),
-    )
-}
-
-// The same into numbers of its own, and its line.
-pub fn transformed(set: usize, a: &[u32], b: &[u32], results: usize, lent: usize) {
+// The same transformed, with a work slice that is lent in part.
+pub fn transformed(set: usize, a: [u32; 6000], b: [u32; 6000], lengths: [usize; 3], lent: usize) {
     let mut out = [7u32; 4097];
     let mut work = [7u32; 4097];
-    let answer = multiply(set, a, b, &mut out, results, &mut work, lent);
-    report::text(b"transformed");
-    case(set, a.len(), b.len(), results);
-    left(lent, answer, &out, &work);
+    let answer = ntt_middle::middle_product(
+        set,
+        report::numbers(&a, 0, lengths[0]),
+        report::numbers(&b, 0, lengths[1]),
+        report::numbers_mut(&mut out, 0, lengths[2]),
+        report::numbers_mut(&mut work, 0, lent),
+    );
+    case(b"transformed", set, lengths);
+    left(lent, answer, out, work);
 }
 
-// Both, of the first numbers of `a` and of `b`: how many of each, and how many results.
-fn both(set: usize, a: &[u32], b: &[u32], lengths: [usize; 3]) {
-    let first = report::numbers(a, 0, lengths[0]);
-    let second = report::numbers(b, 0, lengths[1]);
-    plain(set, first, second, lengths[2]);
-    transformed(set, first, second, lengths[2], size_of(set));
+// Both, with a whole work slice.
+fn both(set: usize, a: [u32; 6000], b: [u32; 6000], lengths: [usize; 3]) {
+    plain(set, a, b, lengths);
+    transformed(set, a, b, lengths, size_of(set));
 }
 
 // Lengths of a, of b and of the result: the shortest, those around 4,096, empty slices, and each slice one short and one long.
@@ -120,7 +104,7 @@ const LENGTHS: [[usize; 3]; 25] = [
 ];
 
 // Each of these lengths.
-fn all_lengths(set: usize, a: &[u32], b: &[u32]) {
+fn all_lengths(set: usize, a: [u32; 6000], b: [u32; 6000]) {
     let mut i: usize = 0;
     while i < 25 {
         both(set, a, b, LENGTHS[i]);
@@ -129,43 +113,32 @@ fn all_lengths(set: usize, a: &[u32], b: &[u32]) {
 }
 
 // A b that just fits the set's largest transform, and one that does not.
-fn around_size(set: usize, a: &[u32], b: &[u32]) {
+fn around_size(set: usize, a: [u32; 6000], b: [u32; 6000]) {
     let size = size_of(set);
     let n = size / 2;
     both(set, a, b, [n, size, size - n + 1]);
     both(set, a, b, [n, size + 1, size - n + 2]);
 }
 
-// A transformed middle product of the first numbers of `a` and of `b`, with a work slice of any length.
-fn with_work(set: usize, a: &[u32], b: &[u32], lengths: [usize; 3], lent: usize) {
-    transformed(
-        set,
-        report::numbers(a, 0, lengths[0]),
-        report::numbers(b, 0, lengths[1]),
-        lengths[2],
-        lent,
-    );
-}
-
 // A work slice one short and one long, the last with a b that is too long besides.
-fn around_work(set: usize, a: &[u32], b: &[u32]) {
+fn around_work(set: usize, a: [u32; 6000], b: [u32; 6000]) {
     let size = size_of(set);
-    with_work(set, a, b, [2, 3, 2], inputs::before(size));
-    with_work(set, a, b, [2, 3, 2], size + 1);
-    with_work(set, a, b, [1, size + 1, size + 1], size + 1);
+    transformed(set, a, b, [2, 3, 2], inputs::before(size));
+    transformed(set, a, b, [2, 3, 2], size + 1);
+    transformed(set, a, b, [1, size + 1, size + 1], size + 1);
 }
 
 // Residues of a set, but for the modulus at one place and the largest number two places further on.
-fn filled(set: usize, start: u64, place: usize) -> [u32; 4097] {
+fn filled(set: usize, start: u64, place: usize) -> [u32; 6000] {
     let p = parameters(set);
-    let mut values = [0u32; 4097];
+    let mut values = [0u32; 6000];
     inputs::residues(&mut values, start, p.q);
     inputs::put(&mut values, place, p.q);
     inputs::put(&mut values, report::at_most(place, 5000) + 2, 4294967295);
     values
 }
 
-// Lengths of a, of b and of the result, and the places from which on a and b hold numbers that are no residues (5,000: none): first and last
+// Lengths of a, of b and of the result, and the places from which on a and b hold numbers that are no residues (5,000: none that is lent): first and last
 // places, places just past the ends, both slices at once, a wrong length besides, and a b too long for the transform besides.
 const WRONG: [[usize; 5]; 12] = [
     [2, 3, 2, 0, 5000],
@@ -186,7 +159,7 @@ const WRONG: [[usize; 5]; 12] = [
 fn wrong(set: usize, row: [usize; 5]) {
     let a = filled(set, 3, row[3]);
     let b = filled(set, 4, row[4]);
-    both(set, &a, &b, [row[0], row[1], row[2]]);
+    both(set, a, b, [row[0], row[1], row[2]]);
 }
 
 // Each of them.
@@ -202,9 +175,9 @@ fn all_wrong(set: usize) {
 fn all_right(set: usize) {
     let a = filled(set, 1, 5000);
     let b = filled(set, 2, 5000);
-    all_lengths(set, &a, &b);
-    around_size(set, &a, &b);
-    around_work(set, &a, &b);
+    all_lengths(set, a, b);
+    around_size(set, a, b);
+    around_work(set, a, b);
 }
 
 // Every set, and one past the last.

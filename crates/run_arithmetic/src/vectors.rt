@@ -66,24 +66,46 @@ fn recover_inverse(set: usize, i: usize, inverse: &[u32], x: &mut [u32])
     report::number_sum(x);
 }
 
-// Forth with the root, back with its inverse.
-fn forth(set: usize, i: usize, n: usize, powers: &[u32], inverse: &[u32], x: &mut [u32])
-    requires { ⌜ IsSet set × (n ≤ transformSize (setOf set) i) × (now powers ≡ rootPowers (setOf set) i) × (now inverse ≡ inversePowers (setOf set) i)
+// Forth with the root, back with its inverse; `powers` holds the powers of the one and then of the other.
+fn forth(set: usize, i: usize, n: usize, powers: &mut [u32], x: &mut [u32])
+    requires { ⌜ IsSet set × (n ≤ transformSize (setOf set) i) × (length (now powers) ≡ transformSize (setOf set) i)
         × (length (now x) ≡ transformSize (setOf set) i) ⌝ }
 {
     fill(set, i, 1, n, x);
+    roots::load_powers(set, i, powers);
     send(set, i, n, powers, x);
-    recover_inverse(set, i, inverse, x);
+    ntt_products::load_inverse_powers(set, i, powers);
+    recover_inverse(set, i, powers, x);
 }
 
 // Forth with the inverse of the root, back with the root.
-fn forth_inverse(set: usize, i: usize, n: usize, powers: &[u32], inverse: &[u32], x: &mut [u32])
-    requires { ⌜ IsSet set × (n ≤ transformSize (setOf set) i) × (now powers ≡ rootPowers (setOf set) i) × (now inverse ≡ inversePowers (setOf set) i)
+fn forth_inverse(set: usize, i: usize, n: usize, powers: &mut [u32], x: &mut [u32])
+    requires { ⌜ IsSet set × (n ≤ transformSize (setOf set) i) × (length (now powers) ≡ transformSize (setOf set) i)
         × (length (now x) ≡ transformSize (setOf set) i) ⌝ }
 {
     fill(set, i, 2, n, x);
-    send_inverse(set, i, n, inverse, x);
+    ntt_products::load_inverse_powers(set, i, powers);
+    send_inverse(set, i, n, powers, x);
+    roots::load_powers(set, i, powers);
     recover(set, i, powers, x);
+}
+
+// Both, one after the other.
+fn both_ways(set: usize, i: usize, n: usize, powers: &mut [u32], x: &mut [u32])
+    requires { ⌜ IsSet set × (n ≤ transformSize (setOf set) i) × (length (now powers) ≡ transformSize (setOf set) i)
+        × (length (now x) ≡ transformSize (setOf set) i) ⌝ }
+{
+    forth(set, i, n, powers, x);
+    forth_inverse(set, i, n, powers, x);
+}
+
+// The same in vectors of its own.
+fn sent(set: usize, i: usize, n: usize, size: usize)
+    requires { ⌜ IsSet set × (size ≡ transformSize (setOf set) i) × (n ≤ size) × (size ≤ 3328) ⌝ }
+{
+    let mut powers = [0u32; 3328];
+    let mut x = [0u32; 3328];
+    both_ways(set, i, n, &mut powers[0..size], &mut x[0..size]);
 }
 
 // How many places a correlation of `n` numbers settles: as many as these n leave.
@@ -107,73 +129,42 @@ fn correlate(set: usize, i: usize, n: usize, powers: &[u32], x: &mut [u32], stor
 }
 
 // The same with vectors of residues.
-fn correlation(set: usize, i: usize, n: usize, powers: &[u32], x: &mut [u32], stored: &mut [u32])
-    requires { ⌜ IsSet set × (0 < n) × (n ≤ transformSize (setOf set) i) × (now powers ≡ rootPowers (setOf set) i)
+fn correlation(
+    set: usize,
+    i: usize,
+    n: usize,
+    powers: &mut [u32],
+    x: &mut [u32],
+    stored: &mut [u32],
+)
+    requires { ⌜ IsSet set × (0 < n) × (n ≤ transformSize (setOf set) i) × (length (now powers) ≡ transformSize (setOf set) i)
         × (length (now x) ≡ transformSize (setOf set) i) × (length (now stored) ≡ transformSize (setOf set) i) ⌝ }
 {
     let size = stored.len();
+    roots::load_powers(set, i, powers);
     fill(set, i, 3, n, x);
     fill(set, i, 4, size, stored);
     correlate(set, i, n, powers, x, stored);
 }
 
-// Each of these with the first `n` numbers.
-fn case(
-    set: usize,
-    i: usize,
-    n: usize,
-    powers: &[u32],
-    inverse: &[u32],
-    x: &mut [u32],
-    stored: &mut [u32],
-)
-    requires { ⌜ IsSet set × (0 < n) × (n ≤ transformSize (setOf set) i) × (now powers ≡ rootPowers (setOf set) i) × (now inverse ≡ inversePowers (setOf set) i)
-        × (length (now x) ≡ transformSize (setOf set) i) × (length (now stored) ≡ transformSize (setOf set) i) ⌝ }
-{
-    forth(set, i, n, powers, inverse, x);
-    forth_inverse(set, i, n, powers, inverse, x);
-    correlation(set, i, n, powers, x, stored);
-}
-
-// The same once the powers of the root and of its inverse are there.
-fn loaded(
-    set: usize,
-    i: usize,
-    n: usize,
-    powers: &mut [u32],
-    inverse: &mut [u32],
-    x: &mut [u32],
-    stored: &mut [u32],
-)
-    requires { ⌜ IsSet set × (0 < n) × (n ≤ transformSize (setOf set) i) × (length (now powers) ≡ transformSize (setOf set) i)
-        × (length (now inverse) ≡ transformSize (setOf set) i) × (length (now x) ≡ transformSize (setOf set) i)
-        × (length (now stored) ≡ transformSize (setOf set) i) ⌝ }
-{
-    roots::load_powers(set, i, powers);
-    ntt_products::load_inverse_powers(set, i, inverse);
-    case(set, i, n, powers, inverse, x, stored);
-}
-
 // The same in vectors of its own.
-fn part(set: usize, i: usize, n: usize, size: usize)
+fn correlated(set: usize, i: usize, n: usize, size: usize)
     requires { ⌜ IsSet set × (size ≡ transformSize (setOf set) i) × (0 < n) × (n ≤ size) × (size ≤ 3328) ⌝ }
 {
     let mut powers = [0u32; 3328];
-    let mut inverse = [0u32; 3328];
     let mut x = [0u32; 3328];
     let mut stored = [0u32; 3328];
-    loaded(
+    correlation(
         set,
         i,
         n,
         &mut powers[0..size],
-        &mut inverse[0..size],
         &mut x[0..size],
         &mut stored[0..size],
     );
 }
 
-// The same after the numbers of the case.
+// Both ways and a correlation, after the numbers of the case.
 fn line(set: usize, i: usize, n: usize, size: usize)
     requires { ⌜ IsSet set × (size ≡ transformSize (setOf set) i) × (0 < n) × (n ≤ size) × (size ≤ 3328) ⌝ }
 {
@@ -181,7 +172,8 @@ fn line(set: usize, i: usize, n: usize, size: usize)
     report::number(set as u64);
     report::number(i as u64);
     report::number(n as u64);
-    part(set, i, n, size);
+    sent(set, i, n, size);
+    correlated(set, i, n, size);
     report::end();
 }
 

@@ -42,7 +42,7 @@ const MODULI: [u32; 14] = [
 ];
 
 // Multipliers at the bound of so many bits, and above it.
-pub const AROUND: [[i32; 4]; 10] = [
+const AROUND: [[i32; 4]; 10] = [
     [1, -1, 2, -2],
     [2, -2, 3, -3],
     [4, -4, 5, -5],
@@ -168,13 +168,18 @@ fn error_pattern(set: usize) -> [i32; 16] {
     if is_bench(set) { BENCH_ERRORS } else { ERRORS }
 }
 
+// Errors at the bound of a set, and above it.
+pub fn error_bounds(set: usize) -> [i32; 4] {
+    if is_bench(set) { AROUND[0] } else { AROUND[2] }
+}
+
 // Errors, the last of which is too large (4) or too small (5).
 fn errors(row: Row, wrong: usize) -> [i32; 10233] {
     let mut e = [0i32; 10233];
-    let bench = is_bench(row.set);
+    let around = error_bounds(row.set);
     inputs::repeat(&mut e, error_pattern(row.set));
-    inputs::put_signed(&mut e, last(row.e, wrong, 4), if bench { 2 } else { 5 });
-    inputs::put_signed(&mut e, last(row.e, wrong, 5), if bench { -2 } else { -5 });
+    inputs::put_signed(&mut e, last(row.e, wrong, 4), around[2]);
+    inputs::put_signed(&mut e, last(row.e, wrong, 5), around[3]);
     e
 }
 
@@ -219,7 +224,7 @@ fn multipliers(row: Row, wrong: usize) -> [i32; 8193] {
     inputs::repeat(&mut r, multiplier_pattern(row.set));
     inputs::put_signed(&mut r, inputs::before(row.position), first[first_of(wrong)]);
     inputs::put_signed(&mut r, row.position, second[second_of(wrong)]);
-    inputs::put_signed(&mut r, if wrong == 7 { 0 } else { 99999 }, 0);
+    inputs::put_signed(&mut r, last(1, wrong, 7), 0);
     inputs::put_signed(&mut r, last(row.r, wrong, 8), 0);
     r
 }
@@ -241,24 +246,6 @@ fn left(answer: Answer, values: &[u32]) {
     report::end();
 }
 
-// Key on numbers in slices of these lengths.
-fn key_with_buffers(
-    set: usize,
-    lengths: [usize; 4],
-    a: &[u32],
-    s: &[u32],
-    e: &[i32],
-    b: &mut [u32],
-) -> Answer {
-    numbers_key::key(
-        set,
-        report::numbers(a, 0, lengths[0]),
-        report::numbers(s, 0, lengths[1]),
-        report::signed(e, 0, lengths[2]),
-        report::numbers_mut(b, 0, lengths[3]),
-    )
-}
-
 // The lengths of a, s, e and b, with one of them changed.
 fn key_lengths(row: Row, change: usize) -> [usize; 4] {
     [
@@ -269,11 +256,23 @@ fn key_lengths(row: Row, change: usize) -> [usize; 4] {
     ]
 }
 
-// Key of these inputs, and its line.
-pub fn key_of(row: Row, change: usize, a: &[u32], s: &[u32], e: &[i32]) -> [u32; 10233] {
+// Key of these inputs with one length changed, and its line.
+pub fn key_of(
+    row: Row,
+    change: usize,
+    a: [u32; 16385],
+    s: [u32; 3327],
+    e: [i32; 10233],
+) -> [u32; 10233] {
     let mut b = [7u32; 10233];
     let lengths = key_lengths(row, change);
-    let answer = key_with_buffers(row.set, lengths, a, s, e, &mut b);
+    let answer = numbers_key::key(
+        row.set,
+        report::numbers(&a, 0, lengths[0]),
+        report::numbers(&s, 0, lengths[1]),
+        report::signed(&e, 0, lengths[2]),
+        report::numbers_mut(&mut b, 0, lengths[3]),
+    );
     call(b"key", row.set, lengths);
     left(answer, &b);
     b
@@ -286,7 +285,7 @@ fn key(row: Row, case: [usize; 2]) -> [u32; 10233] {
     let a = polynomials(row, at);
     let s = secret(row, last(row.s, wrong, 3));
     let e = errors(row, wrong);
-    key_of(row, case[0], &a, &s, &e)
+    key_of(row, case[0], a, s, e)
 }
 
 // Each key that is refused: four slices one long and one short, five wrong numbers, both at once.
@@ -310,30 +309,14 @@ fn sealing_lengths(row: Row, change: usize) -> [usize; 6] {
     ]
 }
 
-// Sealing on numbers in slices of these lengths.
-fn seal(
-    set: usize,
-    lengths: [usize; 6],
-    a: &[u32],
-    b: &[u32],
-    r: &[i32],
-    message: &[u32],
-    c1: &mut [u32],
-    c2: &mut [u32],
-) -> Answer {
-    numbers_sealing::sealing(
-        set,
-        report::numbers(a, 0, lengths[0]),
-        report::numbers(b, 0, lengths[1]),
-        report::signed(r, 0, lengths[2]),
-        report::numbers(message, 0, lengths[3]),
-        report::numbers_mut(c1, 0, lengths[4]),
-        report::numbers_mut(c2, 0, lengths[5]),
-    )
+// What a sealing made.
+pub struct Sealed {
+    pub c1: [u32; 3072],
+    pub c2: [u32; 257],
 }
 
 // Prints the set and the lengths of a sealing, its answer, and the checksums of c1 and c2.
-fn sealed_line(set: usize, lengths: [usize; 6], answer: Answer, c1: &[u32], c2: &[u32]) {
+fn sealed_line(set: usize, lengths: [usize; 6], answer: Answer, c1: [u32; 3072], c2: [u32; 257]) {
     call(
         b"sealing",
         set,
@@ -342,43 +325,45 @@ fn sealed_line(set: usize, lengths: [usize; 6], answer: Answer, c1: &[u32], c2: 
     report::number(lengths[4] as u64);
     report::number(lengths[5] as u64);
     report::answer(answer);
-    report::number_sum(c1);
-    report::number_sum(c2);
+    report::number_sum(&c1);
+    report::number_sum(&c2);
     report::end();
 }
 
 // Sealing of these inputs with one length changed, and its line.
-pub fn sealing_line(
+pub fn sealing_of(
     row: Row,
     change: usize,
-    a: &[u32],
-    b: &[u32],
-    r: &[i32],
-    message: &[u32],
-    c1: &mut [u32],
-    c2: &mut [u32],
-) {
+    a: [u32; 16385],
+    b: [u32; 10233],
+    r: [i32; 8193],
+    message: [u32; 257],
+) -> Sealed {
+    let mut c1 = [7u32; 3072];
+    let mut c2 = [7u32; 257];
     let lengths = sealing_lengths(row, change);
-    let answer = seal(row.set, lengths, a, b, r, message, c1, c2);
+    let answer = numbers_sealing::sealing(
+        row.set,
+        report::numbers(&a, 0, lengths[0]),
+        report::numbers(&b, 0, lengths[1]),
+        report::signed(&r, 0, lengths[2]),
+        report::numbers(&message, 0, lengths[3]),
+        report::numbers_mut(&mut c1, 0, lengths[4]),
+        report::numbers_mut(&mut c2, 0, lengths[5]),
+    );
     sealed_line(row.set, lengths, answer, c1, c2);
+    Sealed { c1, c2 }
 }
 
-// Sealing with one length changed, or with a wrong number at the end of a (1) or of the message (9) or among the multipliers.
-fn sealing_of(row: Row, case: [usize; 2], b: &[u32], c1: &mut [u32], c2: &mut [u32]) {
+// Sealing with one length changed, or with a wrong number at the end of a (1), of b (2) or of the message (9) or among the multipliers.
+fn sealing(row: Row, case: [usize; 2], b: [u32; 10233]) -> Sealed {
     let wrong = case[1];
+    let mut changed = b;
+    inputs::put(&mut changed, last(row.e, wrong, 2), row.q);
     let a = polynomials(row, last(row.a, wrong, 1));
     let r = multipliers(row, wrong);
     let message = message_bits(row.set, last(row.message, wrong, 9));
-    sealing_line(row, case[0], &a, b, &r, &message, c1, c2);
-}
-
-// The same, or with a wrong number at the end of b (2), into numbers of its own.
-fn sealing(row: Row, case: [usize; 2], b: [u32; 10233]) {
-    let mut changed = b;
-    let mut c1 = [7u32; 3072];
-    let mut c2 = [7u32; 257];
-    inputs::put(&mut changed, last(row.e, case[1], 2), row.q);
-    sealing_of(row, case, &changed, &mut c1, &mut c2);
+    sealing_of(row, case[0], a, changed, r, message)
 }
 
 // Each of these: six slices one long and one short, nine wrong numbers and one choice of right ones, a length and a number at once.
@@ -400,46 +385,29 @@ fn reading_lengths(row: Row, change: usize) -> [usize; 4] {
     ]
 }
 
-// Reading on numbers in slices of these lengths.
-fn read(
-    set: usize,
-    lengths: [usize; 4],
-    c1: &[u32],
-    c2: &[u32],
-    s: &[u32],
-    bits: &mut [u32],
-) -> Answer {
-    numbers_reading::reading(
-        set,
-        report::numbers(c1, 0, lengths[0]),
-        report::numbers(c2, 0, lengths[1]),
-        report::numbers(s, 0, lengths[2]),
-        report::numbers_mut(bits, 0, lengths[3]),
-    )
-}
-
 // Reading of these inputs with one length changed, and its line.
-pub fn reading_line(row: Row, change: usize, c1: &[u32], c2: &[u32], s: &[u32]) {
+pub fn reading_of(row: Row, change: usize, c1: [u32; 3072], c2: [u32; 257], s: [u32; 3327]) {
     let mut bits = [7u32; 257];
     let lengths = reading_lengths(row, change);
-    let answer = read(row.set, lengths, c1, c2, s, &mut bits);
+    let answer = numbers_reading::reading(
+        row.set,
+        report::numbers(&c1, 0, lengths[0]),
+        report::numbers(&c2, 0, lengths[1]),
+        report::numbers(&s, 0, lengths[2]),
+        report::numbers_mut(&mut bits, 0, lengths[3]),
+    );
     call(b"reading", row.set, lengths);
     left(answer, &bits);
 }
 
-// Reading with one length changed or with a wrong number at the end of s (3).
-fn reading_of(row: Row, case: [usize; 2], c1: &[u32], c2: &[u32]) {
-    let s = secret(row, last(row.s, case[1], 3));
-    reading_line(row, case[0], c1, c2, &s);
-}
-
-// The same, or with a wrong number at the end of c1 (1) or of c2 (2).
+// Reading with one length changed or with a wrong number at the end of c1 (1), of c2 (2) or of s (3).
 fn reading(row: Row, case: [usize; 2], c1: [u32; 3072], c2: [u32; 257]) {
+    let wrong = case[1];
     let mut one = c1;
     let mut other = c2;
-    inputs::put(&mut one, last(row.c1, case[1], 1), row.q);
-    inputs::put(&mut other, last(row.message, case[1], 2), row.q);
-    reading_of(row, case, &one, &other);
+    inputs::put(&mut one, last(row.c1, wrong, 1), row.q);
+    inputs::put(&mut other, last(row.message, wrong, 2), row.q);
+    reading_of(row, case[0], one, other, secret(row, last(row.s, wrong, 3)));
 }
 
 // Each reading that is refused: four slices one long and one short, three wrong numbers, both at once.
@@ -452,10 +420,10 @@ fn refused_readings(row: Row, c1: [u32; 3072], c2: [u32; 257]) {
 }
 
 // A sealing with nothing changed, and the readings of it.
-fn sealed(row: Row, b: [u32; 10233]) {
-    let mut c1 = [7u32; 3072];
-    let mut c2 = [7u32; 257];
-    sealing_of(row, [0, 0], &b, &mut c1, &mut c2);
+fn seal_and_read(row: Row, b: [u32; 10233]) {
+    let made = sealing(row, [0, 0], b);
+    let c1 = made.c1;
+    let c2 = made.c2;
     refused_readings(row, c1, c2);
     reading(row, [0, 0], c1, c2);
 }
@@ -490,7 +458,7 @@ fn one_row(row: Row) {
     refused_keys(row);
     let b = key(row, [0, 0]);
     all_sealings(row, b);
-    sealed(row, b);
+    seal_and_read(row, b);
     ties(row);
 }
 

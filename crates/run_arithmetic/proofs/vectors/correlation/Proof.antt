@@ -6,13 +6,14 @@ use Rattle.run_arithmetic.proofs.vectors.correlation.Tie as tie
 
 correlate-requires : tie.Need-correlate-requires
 correlate-requires c κs =
-    let pre = c .before .before .before .before .before .before .before .before .before .before .before .before .before .pre in (
+    let loaded = c .before .before .before .before .before .before .before .before .before .before .before .before .before in
+    let pre = loaded .before .before .before .before .before .pre in (
       pre .0,
       pre .1,
-      pre .3,
-      c .before .before .before .before .before .before .before .before .fill .ensures,
+      loaded .load-powers .ensures,
+      c .before .before .before .before .before .before .before .before .before .fill .ensures,
       rw (pre .5) at
-          (c .before .before .before .before .fill2 .ensures),
+          (c .before .before .before .before .before .fill2 .ensures),
     )
 
 pub correlation-spec : {M : Type 1} → statement M
@@ -21,7 +22,9 @@ correlation-spec =
     (tie.spec
     (λ c κs. search needs)
     (λ c κs. search needs)
+    (λ c κs. search needs)
     correlate-requires
+    (λ c. search needs)
     (λ c. search needs)
     (λ c. search needs)
     (λ c. search needs))
