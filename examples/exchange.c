@@ -40,8 +40,13 @@ int main(void)
         return 1;
     printf("after damage: %s\n", memcmp(office, lock, sizeof lock) == 0 ? "the same key" : "the reject key");
 
+    /* Which length was off: 2 for a key, 9 for the ciphertext, 10 for the work slice. */
     uint64_t answer = titanium_encapsulate(SET, public_key, PUBLIC - 1, message, sizeof message, ciphertext, CIPHERTEXT, office,
                                            sizeof office, work, WORK);
     printf("a public key one byte short: refused with %u\n", TITANIUM_REFUSAL(answer));
+    answer = titanium_decapsulate(SET, secret_key, SECRET, ciphertext, CIPHERTEXT - 1, lock, sizeof lock, work, WORK);
+    printf("a ciphertext one byte short: refused with %u\n", TITANIUM_REFUSAL(answer));
+    answer = titanium_decapsulate(SET, secret_key, SECRET, ciphertext, CIPHERTEXT, lock, sizeof lock, work, WORK - 1);
+    printf("a work slice one number short: refused with %u\n", TITANIUM_REFUSAL(answer));
     return 0;
 }

@@ -22,10 +22,18 @@
  * Checks come in the order of the numbers given with each call. A work slice is all zero after a call that passed its checks of the set and the
  * lengths, else untouched.
  *
- *   1  no such set                                6  a slice too long, empty, or of a length that does not fit
- *   2  a slice has not the set's length           7  longer than the set's largest transform
- *   3  a number out of range, with its place      8  a set of the other scheme
- *   4  the lent bytes end                         5  128 candidates in a row were set aside (it is not expected to happen)
+ *   1  no such set
+ *   2  a slice has not the set's length; in the encryption scheme and the key exchange that of a seed, a message, a key or a shared key
+ *   3  a number out of range, with its place
+ *   4  the lent bytes end
+ *   5  128 candidates in a row were set aside (it is not expected to happen)
+ *   6  a slice too long, empty, or of a length that does not fit
+ *   7  longer than the set's largest transform
+ *   8  a set of the other scheme
+ *   9  the ciphertext has not the set's length (encryption scheme and key exchange)
+ *  10  the work slice has not the set's length (encryption scheme and key exchange)
+ *
+ * docs/REFUSALS.md says for each what to look at. Later versions may add numbers: take one that is not known for a refusal of its own.
  */
 #ifndef TITANIUM_H
 #define TITANIUM_H
@@ -58,7 +66,7 @@ size_t titanium_secret_key_bytes(size_t set);
 size_t titanium_ciphertext_bytes(size_t set);
 size_t titanium_work_numbers(size_t set);
 
-/* Key exchange, sets 7 to 12. Refused with 1, 8 (sets 1 to 6), 2, 3 (a number of a public key, also of that inside a secret key), 5. */
+/* Key exchange, sets 7 to 12. Refused with 1, 8 (sets 1 to 6), 2, 9 (not keypair), 10, 3 (a number of a public key, also of that inside a secret key), 5. */
 
 /* The keys of a seed. */
 uint64_t titanium_keypair(size_t set, const uint8_t *seed, size_t seed_length, uint8_t *public_key, size_t public_key_length,
@@ -74,7 +82,8 @@ uint64_t titanium_decapsulate(size_t set, const uint8_t *secret_key, size_t secr
                               size_t ciphertext_length, uint8_t *shared_key, size_t shared_key_length, uint32_t *work,
                               size_t work_length);
 
-/* Encryption scheme, sets 1 to 6. Refused with 1, 8 (sets 7 to 12), 2, 3 (a number of a public key or of a ciphertext's first part), 5. */
+/* Encryption scheme, sets 1 to 6. Refused with 1, 8 (sets 7 to 12), 2, 9 (not encryption_keypair), 10, 3 (a number of a public key or of a ciphertext's
+   first part), 5. */
 
 /* The keys of a seed. */
 uint64_t titanium_encryption_keypair(size_t set, const uint8_t *seed, size_t seed_length, uint8_t *public_key,
@@ -91,7 +100,7 @@ uint64_t titanium_decrypt(size_t set, const uint8_t *secret_key, size_t secret_k
                           size_t ciphertext_length, uint8_t *message, size_t message_length, uint32_t *work, size_t work_length);
 
 /* Key, sealing and reading in one call, the self-test of a delivery. Every length is looked at before the first of the three calls, so that a
-   refused one leaves every output as it was; the work slice is zero after 5. Refused with 1, 8, 2, 5; what a step gives is never refused by the
+   refused one leaves every output as it was; the work slice is zero after 5. Refused with 1, 8, 2, 9, 10, 5; what a step gives is never refused by the
    next. The answer is 0 also where bits were misread: compare the message read with the message, or the two shared keys. */
 
 /* Sets 1 to 6: the keys of a seed, the ciphertext of a message under a sealing seed, and the message read from it. */

@@ -15,7 +15,7 @@ fn main() {
     let words: Vec<u64> = std::env::args().skip(1).map(|word| word.parse().expect("a number")).collect();
     let rounds = words.first().copied().unwrap_or(200);
     let mut random = Random::new(words.get(1).copied().unwrap_or(1));
-    let mut refused = [0u64; 9];
+    let mut refused = [0u64; 11];
     for _ in 0..rounds {
         for number in scheme::round(&mut random).into_iter().chain(numbers::round(&mut random)).chain(bytes::round(&mut random)) {
             refused[number as usize] += 1;

@@ -8,14 +8,21 @@ use comparison::scheme as other;
 use std::ops::RangeInclusive;
 use titanium::{ciphertext_bytes, public_key_bytes, secret_key_bytes, work_numbers};
 
-/// The set, where it is one of the scheme's own and every length is right.
-fn checked(own: RangeInclusive<usize>, number: usize, lengths: &[(usize, usize)]) -> Result<Set, Refusal> {
-    match set(number) {
-        Some(s) if own.contains(&number) && lengths.iter().all(|(given, right)| given == right) => Ok(s),
-        Some(_) if own.contains(&number) => refusal(2, 0),
-        Some(_) if number > 0 => refusal(8, 0),
-        _ => refusal(1, 0),
+/// What a wrong length is refused with: that of a seed, message, key or shared key, that of a ciphertext, that of a work slice; looked at in this order.
+const SLICE: u8 = 2;
+const CIPHERTEXT: u8 = 9;
+const WORK: u8 = 10;
+
+/// The set, where it is one of the scheme's own and every length is right; `lengths` has for each slice its refusal, the length given and the right one.
+fn checked(own: RangeInclusive<usize>, number: usize, lengths: &[(u8, usize, usize)]) -> Result<Set, Refusal> {
+    let Some(s) = set(number).filter(|_| number > 0) else {
+        return refusal(1, 0);
+    };
+    if !own.contains(&number) {
+        return refusal(8, 0);
     }
+    let wrong = |refusal: &u8| lengths.iter().any(|&(with, given, right)| with == *refusal && given != right);
+    [SLICE, CIPHERTEXT, WORK].into_iter().find(wrong).map_or(Ok(s), |number| refusal(number, 0))
 }
 
 /// The lengths of a set that exists.
@@ -55,7 +62,7 @@ fn key(random: &mut Random, number: usize, own: RangeInclusive<usize>) -> (u8, V
     let exchange = own.contains(&12);
     let call = if exchange { titanium::keypair } else { titanium::encryption_keypair };
     let given = call(number, &seed, public.slice(), secret.slice(), work.slice());
-    let passed = checked(own, number, &[(seed.len(), 32), (pk, right[0]), (sk, right[1]), (w, right[3])]);
+    let passed = checked(own, number, &[(SLICE, seed.len(), 32), (SLICE, pk, right[0]), (SLICE, sk, right[1]), (WORK, w, right[3])]);
     let made = passed.as_ref().map_err(|&r| r).and_then(|s| if exchange { other::exchange_key(s, &seed) } else { other::key(s, &seed) });
     public.expect(made.as_ref().map(|keys| keys.0.as_slice()));
     secret.expect(made.as_ref().map(|keys| keys.1.as_slice()));
@@ -72,7 +79,8 @@ fn encrypt(random: &mut Random, number: usize, public: &[u8]) -> (u8, Vec<u8>) {
     let [ct, w] = [right[2], right[3]].map(|right| random.length(right));
     let (mut sealed, mut work) = (Lent::new(ct, 7), Lent::new(w, 7));
     let given = titanium::encrypt(number, public, &message, &seed, sealed.slice(), work.slice());
-    let passed = checked(1..=6, number, &[(public.len(), right[0]), (message.len(), 32), (seed.len(), 32), (ct, right[2]), (w, right[3])]);
+    let slices = [(SLICE, public.len(), right[0]), (SLICE, message.len(), 32), (SLICE, seed.len(), 32)];
+    let passed = checked(1..=6, number, &[&slices[..], &[(CIPHERTEXT, ct, right[2]), (WORK, w, right[3])]].concat());
     let made = passed.as_ref().map_err(|&r| r).and_then(|s| other::encrypt(s, public, &message, &seed));
     sealed.expect(made.as_ref().map(|bytes| bytes.as_slice()));
     expect_work(&work, w, &passed);
@@ -86,7 +94,8 @@ fn encapsulate(random: &mut Random, number: usize, public: &[u8]) -> (u8, Vec<u8
     let [ct, ss, w] = [right[2], 32, right[3]].map(|right| random.length(right));
     let (mut sealed, mut shared, mut work) = (Lent::new(ct, 7), Lent::new(ss, 7), Lent::new(w, 7));
     let given = titanium::encapsulate(number, public, &message, sealed.slice(), shared.slice(), work.slice());
-    let passed = checked(7..=12, number, &[(public.len(), right[0]), (message.len(), 32), (ct, right[2]), (ss, 32), (w, right[3])]);
+    let slices = [(SLICE, public.len(), right[0]), (SLICE, message.len(), 32), (SLICE, ss, 32)];
+    let passed = checked(7..=12, number, &[&slices[..], &[(CIPHERTEXT, ct, right[2]), (WORK, w, right[3])]].concat());
     let made = passed.as_ref().map_err(|&r| r).and_then(|s| other::encapsulate(s, public, &message));
     sealed.expect(made.as_ref().map(|pair| pair.0.as_slice()));
     shared.expect(made.as_ref().map(|pair| pair.1.as_slice()));
@@ -101,7 +110,7 @@ fn open(random: &mut Random, number: usize, own: RangeInclusive<usize>, secret: 
     let exchange = own.contains(&12);
     let call = if exchange { titanium::decapsulate } else { titanium::decrypt };
     let given = call(number, secret, sealed, given_bytes.slice(), work.slice());
-    let passed = checked(own, number, &[(secret.len(), right[1]), (sealed.len(), right[2]), (out, 32), (w, right[3])]);
+    let passed = checked(own, number, &[(SLICE, secret.len(), right[1]), (CIPHERTEXT, sealed.len(), right[2]), (SLICE, out, 32), (WORK, w, right[3])]);
     let model = if exchange { other::decapsulate } else { other::decrypt };
     let made = passed.as_ref().map_err(|&r| r).and_then(|s| model(s, secret, sealed));
     given_bytes.expect(made.as_ref().map(|bytes| bytes.as_slice()));
@@ -130,8 +139,8 @@ fn seal_and_read(random: &mut Random, number: usize) -> u8 {
         read.slice(),
         work.slice(),
     );
-    let inputs = [(seed.len(), 32), (message.len(), 32), (sealing.len(), 32)];
-    let outputs = [(pk, right[0]), (sk, right[1]), (ct, right[2]), (out, 32), (w, right[3])];
+    let inputs = [(SLICE, seed.len(), 32), (SLICE, message.len(), 32), (SLICE, sealing.len(), 32)];
+    let outputs = [(SLICE, pk, right[0]), (SLICE, sk, right[1]), (CIPHERTEXT, ct, right[2]), (SLICE, out, 32), (WORK, w, right[3])];
     let passed = checked(1..=6, number, &[&inputs[..], &outputs[..]].concat());
     let made = passed.as_ref().map_err(|&r| r).and_then(|s| {
         let (public, secret) = other::key(s, &seed)?;
@@ -167,8 +176,8 @@ fn share_a_key(random: &mut Random, number: usize) -> u8 {
         received.slice(),
         work.slice(),
     );
-    let inputs = [(seed.len(), 32), (message.len(), 32)];
-    let outputs = [(pk, right[0]), (sk, right[1]), (ct, right[2]), (one, 32), (two, 32), (w, right[3])];
+    let inputs = [(SLICE, seed.len(), 32), (SLICE, message.len(), 32), (SLICE, one, 32), (SLICE, two, 32)];
+    let outputs = [(SLICE, pk, right[0]), (SLICE, sk, right[1]), (CIPHERTEXT, ct, right[2]), (WORK, w, right[3])];
     let passed = checked(7..=12, number, &[&inputs[..], &outputs[..]].concat());
     let made = passed.as_ref().map_err(|&r| r).and_then(|s| {
         let (public, secret) = other::exchange_key(s, &seed)?;

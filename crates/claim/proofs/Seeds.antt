@@ -9,7 +9,6 @@ use native.Mathlib.Omega.{arith}
 use borrow.Author.Tests.{eq-eqb}
 use lib.ListN.{length, length-append, length-drop}
 use Rattle.calls.specs.Outcome.{Outcome, accepted, andThen}
-use Rattle.calls.proofs.Checks.{Each}
 use Rattle.sets.specs.declared.Parameters.{Parameters}
 use Rattle.sets.specs.Table.{setOf, IsSet}
 use Rattle.sets.specs.Derived.{isEncryption, isExchange, publicKeyBytes, secretKeyBytes, ciphertextBytes, cpaCiphertextBytes}
@@ -20,20 +19,21 @@ use Rattle.packing.specs.Digits.{Digit}
 use Rattle.scheme.specs.Encryption.{secretSeed, publicKey, ciphertext}
 use Rattle.scheme.specs.Exchange.{innerSeed, sealingSeed, checkBytes, exchangePublicKey, exchangeSecretKey, encapsulated}
 use Rattle.scheme.specs.Conditions.{Conditions}
-use Rattle.scheme.specs.Answers.{checks, workLength, keyChecks, encryptChecks, encapsulateChecks, decryptChecks}
+use Rattle.scheme.specs.Answers.{checks, workLength, keyChecks, encryptChecks, decryptChecks}
 use Rattle.scheme.specs.Answers.{keyDraws, encryptionKeyAnswer, encryptAnswer, decryptAnswer, exchangeKeyAnswer, encapsulateAnswer, decapsulateAnswer}
 use Rattle.scheme.proofs.Conditions.{set-conditions}
 use Rattle.scheme.proofs.Bytes.{secretSeed-length, publicKey-length, ciphertext-length}
-use Rattle.scheme.proofs.Answers.{checks-pass}
+use Rattle.scheme.proofs.Answers.{checks-pass, both-fit}
 use Rattle.scheme.proofs.Claim as encryptions
 use Rattle.scheme.proofs.Exchange as exchanges
 use Rattle.claim.specs.Claim.{encryption, exchange, Demand3}
 use Rattle.claim.proofs.Draws.{sealing-drawn, reading-drawn, encapsulation-drawn, decapsulation-drawn}
 
 -- a call of a set of its own, with slices of the set's lengths, answers by its draws
-by-draws : (isOwn : ℕ → Bool) (set : ℕ) (tests : List Bool) (draws : Outcome) → 1 ≤ set → IsSet set → isOwn set ≡ true → Each tests → draws ≡ accepted
-    → andThen (checks isOwn set tests) draws ≡ accepted
-by-draws isOwn set tests draws some low own fits drawn = rw (checks-pass isOwn set tests (some, omega arith, own) fits, drawn)
+by-draws : (isOwn : ℕ → Bool) (set : ℕ) {slices ciphertext work : Bool} (draws : Outcome) → 1 ≤ set → IsSet set → isOwn set ≡ true
+    → slices ≡ true → ciphertext ≡ true → work ≡ true → draws ≡ accepted → andThen (checks isOwn set slices ciphertext work) draws ≡ accepted
+by-draws isOwn set draws some low own fit sealed-fits work-fits drawn =
+    rw (checks-pass isOwn set _ _ _ (some, omega arith, own) fit sealed-fits work-fits, drawn)
 
 module _ {p : Parameters} (c : Conditions p) where
   -- how many bytes a public key of the key exchange has
@@ -75,23 +75,17 @@ module _ (set : ℕ) (low : IsSet set) (own : isEncryption set ≡ true) (seed s
         let p = setOf set in
         record {
           key-accepts =
-              by-draws isEncryption set _ (keyDraws p seed) some low own
-              (eq-eqb (length seed) 32 seed-size, (eq-eqb (publicKeyBytes p) _ refl, (eq-eqb (secretKeyBytes set) _ refl, (eq-eqb (workLength p) _ refl, tt))))
-              drawn;
+              by-draws isEncryption set (keyDraws p seed) some low own
+              (both-fit (both-fit (eq-eqb (length seed) 32 seed-size) (eq-eqb (publicKeyBytes p) _ refl)) (eq-eqb (secretKeyBytes set) _ refl))
+              refl (eq-eqb (workLength p) _ refl) drawn;
           sealing-accepts =
-              by-draws isEncryption set _ _ some low own (
-                eq-eqb _ _ (publicKey-length conditions seed),
-                (
-                  eq-eqb (length message) 32 message-size,
-                  (
-                    eq-eqb (length sealing) 32 sealing-size,
-                    (eq-eqb (ciphertextBytes set) _ refl, (eq-eqb (workLength p) _ refl, tt)),
-                  ),
-                ),
-              ) (sealing-drawn conditions seed drawn);
+              by-draws isEncryption set _ some low own
+              (both-fit (both-fit (eq-eqb _ _ (publicKey-length conditions seed)) (eq-eqb (length message) 32 message-size))
+              (eq-eqb (length sealing) 32 sealing-size))
+              (eq-eqb (ciphertextBytes set) _ refl) (eq-eqb (workLength p) _ refl) (sealing-drawn conditions seed drawn);
           reading-accepts =
-              by-draws isEncryption set _ _ some low own
-              (eq-eqb _ _ secret-size, (eq-eqb _ _ sealed-size, (refl, (eq-eqb (workLength p) _ refl, tt))))
+              by-draws isEncryption set _ some low own
+              (both-fit (eq-eqb _ _ secret-size) refl) (eq-eqb _ _ sealed-size) (eq-eqb (workLength p) _ refl)
               (reading-drawn conditions seed drawn (publicKey p seed) message sealing);
           bits = encryptions.claim conditions seed message sealing;
           whole = encryptions.returned conditions seed message sealing message-size bytes;
@@ -106,35 +100,24 @@ module _ (set : ℕ) (low : IsSet set) (own : isExchange set ≡ true) (seed mes
 
     -- demand 3
     pub exchange-claim : Demand3 set (exchange seed message)
-    unfolding keyChecks encapsulateChecks decryptChecks exchangeKeyAnswer encapsulateAnswer decapsulateAnswer
+    unfolding keyChecks encryptChecks decryptChecks exchangeKeyAnswer encapsulateAnswer decapsulateAnswer
     exchange-claim =
         let p = setOf set in
         let c = exchange-conditions in
         let some = exchange-some set own in
         record {
           key-accepts =
-              by-draws isExchange set _ (keyDraws p (innerSeed p seed)) some low own
-              (eq-eqb (length seed) 32 seed-size, (eq-eqb (publicKeyBytes p) _ refl, (eq-eqb (secretKeyBytes set) _ refl, (eq-eqb (workLength p) _ refl, tt))))
-              drawn;
+              by-draws isExchange set (keyDraws p (innerSeed p seed)) some low own
+              (both-fit (both-fit (eq-eqb (length seed) 32 seed-size) (eq-eqb (publicKeyBytes p) _ refl)) (eq-eqb (secretKeyBytes set) _ refl))
+              refl (eq-eqb (workLength p) _ refl) drawn;
           sealing-accepts =
-              by-draws isExchange set _ _ some low own (
-                eq-eqb _ _ (public-length c seed),
-                (
-                  eq-eqb (length message) 32 message-size,
-                  (
-                    eq-eqb (ciphertextBytes set) _ refl,
-                    (refl, (eq-eqb (workLength p) _ refl, tt)),
-                  ),
-                ),
-              ) (encapsulation-drawn c seed drawn);
+              by-draws isExchange set _ some low own
+              (both-fit (both-fit (eq-eqb _ _ (public-length c seed)) (eq-eqb (length message) 32 message-size)) refl)
+              (eq-eqb (ciphertextBytes set) _ refl) (eq-eqb (workLength p) _ refl) (encapsulation-drawn c seed drawn);
           reading-accepts =
-              by-draws isExchange set _ _ some low own (
-                eq-eqb _ _ (secret-length c seed seed-size ∙ sym (secret-exchange set own)),
-                (
-                  eq-eqb _ _ (encapsulated-length c (exchangePublicKey p seed) message ∙ sym (ciphertext-exchange set own)),
-                  (refl, (eq-eqb (workLength p) _ refl, tt)),
-                ),
-              )
+              by-draws isExchange set _ some low own
+              (both-fit (eq-eqb _ _ (secret-length c seed seed-size ∙ sym (secret-exchange set own))) refl)
+              (eq-eqb _ _ (encapsulated-length c (exchangePublicKey p seed) message ∙ sym (ciphertext-exchange set own))) (eq-eqb (workLength p) _ refl)
               (decapsulation-drawn c seed drawn seed-size);
           bits = exchanges.claim c seed message seed-size;
           whole = exchanges.same-key c seed message seed-size message-size bytes;

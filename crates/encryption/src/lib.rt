@@ -61,6 +61,7 @@ pub fn encrypt(
         (now (ciphertext .entry)) (now (work .entry)) ⌝ }
 {
     let checked = scheme_checks::encrypt_checked(
+        sets::ENCRYPTION,
         set,
         public.len(),
         message.len(),

@@ -61,12 +61,13 @@ pub fn encapsulate(
     ensures cleared { λ _. ⌜ now (work .exit) ≡ encapsulateWork set (now (public .entry)) (now (message .entry))
         (now (ciphertext .entry)) (now (shared .entry)) (now (work .entry)) ⌝ }
 {
-    let checked = scheme_checks::encapsulate_checked(
+    let checked = scheme_checks::encrypt_checked(
+        sets::EXCHANGE,
         set,
         public.len(),
         message.len(),
-        ciphertext.len(),
         shared.len(),
+        ciphertext.len(),
         work.len(),
     );
     let Answer::Done = checked else {

@@ -1,5 +1,5 @@
-// The lengths of the slices of both schemes' calls by sets, and slices cut to them, one of which may be changed. Inputs are a key seed, a sealing seed and a
-// message, 32 bytes each.
+// The lengths of the slices of both schemes' calls by sets, and slices cut to them, up to two of which may be changed. Inputs are a key seed, a sealing
+// seed and a message, 32 bytes each.
 
 // Bytes of a public key, of a secret key and of a ciphertext, numbers of the work slice, modulus. Sets 1 to 6 are of the encryption scheme, 7 to
 // 12 of the key exchange; 0 and 13 are of neither.
@@ -63,4 +63,46 @@ pub fn fill_inputs(inputs: &mut [u8], choice: usize) {
     crate::fill_bytes(crate::front_mut(inputs, 32), start);
     crate::fill_bytes(crate::part_mut(inputs, 32, 32), start + 1);
     crate::fill_bytes(crate::part_mut(inputs, 64, 32), start + 2);
+}
+
+// Two changes at once, one slice one longer and a later one one shorter: those of the first two slices, then the others with the third, and so on.
+const PAIRS: [usize; 28] = [
+    401,
+    601,
+    603,
+    801,
+    803,
+    805,
+    1001,
+    1003,
+    1005,
+    1007,
+    1201,
+    1203,
+    1205,
+    1207,
+    1209,
+    1401,
+    1403,
+    1405,
+    1407,
+    1409,
+    1411,
+    1601,
+    1603,
+    1605,
+    1607,
+    1609,
+    1611,
+    1613,
+];
+
+// Change number i of a call with so many slices: none, then each slice one longer and one shorter, then each two of them.
+pub fn change(slices: usize, i: usize) -> usize {
+    let single = 2 * crate::at_most(slices, 8);
+    if i <= single {
+        i
+    } else {
+        PAIRS[crate::at_most(i - single - 1, 27)]
+    }
 }

@@ -206,7 +206,7 @@ pub fn at_most(x: usize, limit: usize) -> usize
 
 // A length, or another where it is the one to change: 1 and 2 are one more and one less of the first slice, 3 and 4 of the second, and so on; 20 is
 // an empty first slice, 21 an empty second one, and so on.
-pub fn changed(length: usize, slice: usize, change: usize) -> usize {
+fn changed_once(length: usize, slice: usize, change: usize) -> usize {
     if change == 0 {
         return length;
     }
@@ -223,7 +223,16 @@ pub fn changed(length: usize, slice: usize, change: usize) -> usize {
     }
 }
 
-// Prints the name of a call, its set, and which length was changed.
+// The same with up to two changes: one and 100 times another.
+pub fn changed(length: usize, slice: usize, change: usize) -> usize {
+    changed_once(
+        changed_once(length, slice, change % 100),
+        slice,
+        change / 100,
+    )
+}
+
+// Prints the name of a call, its set, and which lengths were changed.
 pub fn call(name: &[u8], set: usize, change: usize) {
     text(name);
     number(set as u64);

@@ -1,3 +1,2 @@
-pub mod Then
 pub mod SealAndRead
 pub mod ShareAKey

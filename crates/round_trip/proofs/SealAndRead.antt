@@ -5,7 +5,7 @@ use mathlib.Core.List.{List}
 use Prim.Native.Nat.{ℕ}
 use native.Mathlib.Omega.{arith}
 use lib.ListN.{length, replicate, length-replicate}
-use Rattle.calls.specs.Outcome.{Outcome, accepted, refused, andThen, leaves}
+use Rattle.calls.specs.Outcome.{Outcome, accepted, refused, leaves}
 use Rattle.calls.proofs.Outcome.{accepted-refused, leaves-accepted, leaves-refused}
 use Rattle.sets.specs.Table.{setOf}
 use Rattle.sets.specs.Derived.{isEncryption, ciphertextBytes}
@@ -15,11 +15,10 @@ use Rattle.scheme.specs.Bits.{messageRead}
 use Rattle.scheme.specs.Answers.{keyChecks, encryptChecks, decryptChecks, keyDraws, workLength, workLeft}
 use Rattle.scheme.specs.Answers.{encryptionKeyAnswer, encryptionPublicLeft, encryptionSecretLeft, encryptionKeyWork}
 use Rattle.scheme.specs.Answers.{encryptAnswer, ciphertextLeft, encryptWork, decryptAnswer, messageLeft, decryptWork}
-use Rattle.scheme.proofs.Answers.{key-passed, encrypt-passed, decrypt-passed, by-checks}
+use Rattle.scheme.proofs.Answers.{key-passed, encrypt-passed, decrypt-passed, round-trip-passed, by-checks, by-draws, work-stays}
 use Rattle.claim.specs.Claim.{encryption, Demand3}
 use Rattle.claim.proofs.Claim.{demand-3}
 use Rattle.round_trip.specs.Answers.{sealAndReadChecked, sealAndReadAnswer, sealAndReadWork}
-use Rattle.round_trip.proofs.Then.{work-stays, first-passed, second-passed, third-passed, whole-decided, first-decided}
 
 module _ (set : ℕ) (seed message sealing public secret sealed read work : List ℕ) where
   -- the checks of key, of encrypt and of decrypt, and all of them
@@ -27,13 +26,13 @@ module _ (set : ℕ) (seed message sealing public secret sealed read work : List
   keyFits = keyChecks isEncryption set (length seed) (length public) (length secret) (length work)
 
   abbrev encryptFits : Outcome
-  encryptFits = encryptChecks set (length public) (length message) (length sealing) (length sealed) (length work)
+  encryptFits = encryptChecks isEncryption set (length public) (length message) (length sealing) (length sealed) (length work)
 
   abbrev decryptFits : Outcome
   decryptFits = decryptChecks isEncryption set (length secret) (length sealed) (length read) (length work)
 
   abbrev pub allFit : Outcome
-  allFit = andThen keyFits (andThen encryptFits decryptFits)
+  allFit = sealAndReadChecked set seed message sealing public secret sealed read work
 
   -- the answer of the whole
   abbrev answer : Outcome
@@ -57,36 +56,31 @@ module _ (set : ℕ) (seed message sealing public secret sealed read work : List
   -- nothing was written
   untouched : {o : Outcome} {number place : ℕ} {work₁ : List ℕ} → o ≡ refused number place → (answer ≡ refused number place) × (work₁ ≡ workLeft allFit work)
       → Promised o public secret sealed read work₁
-  unfolding sealAndReadWork sealAndReadChecked
+  unfolding sealAndReadWork
   untouched {o} e answered =
       let kept : (new old : List ℕ) → old ≡ leaves o new old = λ new old. sym (leaves-refused new old e) in
       (e ∙ sym (answered .0), (kept _ _, (kept _ _, (kept _ _, (kept _ _, (answered .1, λ a. absurd (accepted-refused a e)))))))
 
   -- the checks refuse
   pub checks-refuse : {o : Outcome} {number place : ℕ} → o ≡ allFit → o ≡ refused number place → Promised o public secret sealed read work
-  unfolding sealAndReadAnswer sealAndReadChecked
+  unfolding sealAndReadAnswer
   checks-refuse e told = untouched told (by-checks (keyDraws (setOf set) seed) work (sym e ∙ told))
 
   module _ (passed : allFit ≡ accepted) where
     -- the checks of each call pass
-    key-fits : keyFits ≡ accepted
-    key-fits = first-passed keyFits encryptFits decryptFits accepted work passed
-
-    encrypt-fits : encryptFits ≡ accepted
-    encrypt-fits = second-passed keyFits encryptFits decryptFits accepted work passed
-
-    decrypt-fits : decryptFits ≡ accepted
-    decrypt-fits = third-passed keyFits encryptFits decryptFits accepted work passed
+    fits : (keyFits ≡ accepted) × (encryptFits ≡ accepted) × (decryptFits ≡ accepted)
+    unfolding sealAndReadChecked
+    fits = round-trip-passed isEncryption set _ _ _ _ _ _ _ _ passed
 
     -- the draws of the key decide, and the work slice is cleared
     whole-answers : (answer ≡ keyDraws (setOf set) seed) × (replicate (length work) 0 ≡ workLeft allFit work)
-    unfolding sealAndReadAnswer sealAndReadChecked
-    whole-answers = whole-decided keyFits encryptFits decryptFits (keyDraws (setOf set) seed) work passed
+    unfolding sealAndReadAnswer
+    whole-answers = by-draws (keyDraws (setOf set) seed) work passed refl
 
     key-answers : (encryptionKeyAnswer set seed (length public) (length secret) (length work) ≡ keyDraws (setOf set) seed)
         × (replicate (length work) 0 ≡ workLeft keyFits work)
     unfolding encryptionKeyAnswer
-    key-answers = first-decided keyFits encryptFits decryptFits (keyDraws (setOf set) seed) work passed
+    key-answers = by-draws (keyDraws (setOf set) seed) work (fits .0) refl
 
     -- what key promises: its answer, the keys, the work slice
     abbrev pub KeyPromised : Outcome → List ℕ → List ℕ → List ℕ → Type 0
@@ -114,8 +108,8 @@ module _ (set : ℕ) (seed message sealing public secret sealed read work : List
       -- no draw was refused, so that demand 3 holds
       pub holds : Demand3 set (encryption seed message sealing)
       holds =
-          let key = key-passed isEncryption set _ _ _ _ key-fits in
-          let encrypt = encrypt-passed set _ _ _ _ _ encrypt-fits in
+          let key = key-passed isEncryption set _ _ _ _ (fits .0) in
+          let encrypt = encrypt-passed isEncryption set _ _ _ _ _ (fits .1) in
           demand-3 set (encryption seed message sealing) (omega (arith, key .0 .1))
           (key .0 .2, key .1, encrypt .3, encrypt .2, bytes)
           (sym (key-answers .0) ∙ keyed)
@@ -135,13 +129,13 @@ module _ (set : ℕ) (seed message sealing public secret sealed read work : List
 
       -- the lengths of the work slice and of the ciphertext
       work-size : length work ≡ workLength (setOf set)
-      work-size = key-passed isEncryption set _ _ _ _ key-fits .4
+      work-size = key-passed isEncryption set _ _ _ _ (fits .0) .4
 
       cleared-size : length {A = ℕ} (replicate (length work) 0) ≡ workLength (setOf set)
       cleared-size = length-replicate {A = ℕ} (length work) 0 ∙ work-size
 
       sealed-size : length sealed ≡ ciphertextBytes set
-      sealed-size = encrypt-passed set _ _ _ _ _ encrypt-fits .4
+      sealed-size = encrypt-passed isEncryption set _ _ _ _ _ (fits .1) .4
 
       -- encrypt is accepted
       abbrev encrypted : Outcome
@@ -165,7 +159,7 @@ module _ (set : ℕ) (seed message sealing public secret sealed read work : List
         work₂-is = sent .1 ∙ ap (workLeft _) work-is ∙ work-stays _ (length work)
 
         read-size : length read ≡ 32
-        read-size = decrypt-passed isEncryption set _ _ _ _ decrypt-fits .3
+        read-size = decrypt-passed isEncryption set _ _ _ _ (fits .2) .3
 
         -- decrypt is accepted
         abbrev decrypted : Outcome
@@ -186,7 +180,7 @@ module _ (set : ℕ) (seed message sealing public secret sealed read work : List
 
         -- all three calls are accepted
         pub all-accept : {o : Outcome} {read₁ work₃ : List ℕ} → DecryptPromised o read₁ work₃ → Promised o public₁ secret₁ sealed₁ read₁ work₃
-        unfolding sealAndReadWork sealAndReadChecked messageLeft decryptWork
+        unfolding sealAndReadWork messageLeft decryptWork
         all-accept {o} {read₁} {work₃} opened =
             let done : o ≡ accepted = opened .0 ∙ decrypt-accepts in
             let cleared : work₃ ≡ workLeft allFit work =

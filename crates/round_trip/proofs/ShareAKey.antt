@@ -5,21 +5,20 @@ use mathlib.Core.List.{List}
 use Prim.Native.Nat.{ℕ}
 use native.Mathlib.Omega.{arith}
 use lib.ListN.{length, replicate, length-replicate}
-use Rattle.calls.specs.Outcome.{Outcome, accepted, refused, andThen, leaves}
+use Rattle.calls.specs.Outcome.{Outcome, accepted, refused, leaves}
 use Rattle.calls.proofs.Outcome.{accepted-refused, leaves-accepted, leaves-refused}
 use Rattle.sets.specs.Table.{setOf}
 use Rattle.sets.specs.Derived.{isExchange, ciphertextBytes}
 use Rattle.packing.specs.Digits.{Digit}
 use Rattle.scheme.specs.Exchange.{innerSeed, exchangePublicKey, exchangeSecretKey, encapsulated, sharedKey, decapsulated}
-use Rattle.scheme.specs.Answers.{keyChecks, encapsulateChecks, decryptChecks, keyDraws, workLength, workLeft}
+use Rattle.scheme.specs.Answers.{keyChecks, encryptChecks, decryptChecks, keyDraws, workLength, workLeft}
 use Rattle.scheme.specs.Answers.{exchangeKeyAnswer, exchangePublicLeft, exchangeSecretLeft, exchangeKeyWork}
 use Rattle.scheme.specs.Answers.{encapsulateAnswer, encapsulatedLeft, sharedKeyLeft, encapsulateWork}
 use Rattle.scheme.specs.Answers.{decapsulateAnswer, decapsulatedLeft, decapsulateWork}
-use Rattle.scheme.proofs.Answers.{key-passed, encapsulate-passed, decrypt-passed, by-checks}
+use Rattle.scheme.proofs.Answers.{key-passed, encrypt-passed, decrypt-passed, round-trip-passed, by-checks, by-draws, work-stays}
 use Rattle.claim.specs.Claim.{exchange, Demand3}
 use Rattle.claim.proofs.Claim.{demand-3}
 use Rattle.round_trip.specs.Answers.{shareAKeyChecked, shareAKeyAnswer, shareAKeyWork}
-use Rattle.round_trip.proofs.Then.{work-stays, first-passed, second-passed, third-passed, whole-decided, first-decided}
 
 module _ (set : ℕ) (seed message public secret sealed sent received work : List ℕ) where
   -- the checks of key, of encapsulate and of decapsulate, and all of them
@@ -27,13 +26,13 @@ module _ (set : ℕ) (seed message public secret sealed sent received work : Lis
   keyFits = keyChecks isExchange set (length seed) (length public) (length secret) (length work)
 
   abbrev encapsulateFits : Outcome
-  encapsulateFits = encapsulateChecks set (length public) (length message) (length sealed) (length sent) (length work)
+  encapsulateFits = encryptChecks isExchange set (length public) (length message) (length sent) (length sealed) (length work)
 
   abbrev decapsulateFits : Outcome
   decapsulateFits = decryptChecks isExchange set (length secret) (length sealed) (length received) (length work)
 
   abbrev pub allFit : Outcome
-  allFit = andThen keyFits (andThen encapsulateFits decapsulateFits)
+  allFit = shareAKeyChecked set seed message public secret sealed sent received work
 
   -- the answer of the whole
   abbrev answer : Outcome
@@ -58,36 +57,31 @@ module _ (set : ℕ) (seed message public secret sealed sent received work : Lis
   -- nothing was written
   untouched : {o : Outcome} {number place : ℕ} {work₁ : List ℕ} → o ≡ refused number place → (answer ≡ refused number place) × (work₁ ≡ workLeft allFit work)
       → Promised o public secret sealed sent received work₁
-  unfolding shareAKeyWork shareAKeyChecked
+  unfolding shareAKeyWork
   untouched {o} e answered =
       let kept : (new old : List ℕ) → old ≡ leaves o new old = λ new old. sym (leaves-refused new old e) in
       (e ∙ sym (answered .0), (kept _ _, (kept _ _, (kept _ _, (kept _ _, (kept _ _, (answered .1, λ a. absurd (accepted-refused a e))))))))
 
   -- the checks refuse
   pub checks-refuse : {o : Outcome} {number place : ℕ} → o ≡ allFit → o ≡ refused number place → Promised o public secret sealed sent received work
-  unfolding shareAKeyAnswer shareAKeyChecked
+  unfolding shareAKeyAnswer
   checks-refuse e told = untouched told (by-checks (keyDraws (setOf set) (innerSeed (setOf set) seed)) work (sym e ∙ told))
 
   module _ (passed : allFit ≡ accepted) where
     -- the checks of each call pass
-    key-fits : keyFits ≡ accepted
-    key-fits = first-passed keyFits encapsulateFits decapsulateFits accepted work passed
-
-    encapsulate-fits : encapsulateFits ≡ accepted
-    encapsulate-fits = second-passed keyFits encapsulateFits decapsulateFits accepted work passed
-
-    decapsulate-fits : decapsulateFits ≡ accepted
-    decapsulate-fits = third-passed keyFits encapsulateFits decapsulateFits accepted work passed
+    fits : (keyFits ≡ accepted) × (encapsulateFits ≡ accepted) × (decapsulateFits ≡ accepted)
+    unfolding shareAKeyChecked
+    fits = round-trip-passed isExchange set _ _ _ _ _ _ _ _ passed
 
     -- the draws of the key decide, and the work slice is cleared
     whole-answers : (answer ≡ keyDraws (setOf set) (innerSeed (setOf set) seed)) × (replicate (length work) 0 ≡ workLeft allFit work)
-    unfolding shareAKeyAnswer shareAKeyChecked
-    whole-answers = whole-decided keyFits encapsulateFits decapsulateFits (keyDraws (setOf set) (innerSeed (setOf set) seed)) work passed
+    unfolding shareAKeyAnswer
+    whole-answers = by-draws (keyDraws (setOf set) (innerSeed (setOf set) seed)) work passed refl
 
     key-answers : (exchangeKeyAnswer set seed (length public) (length secret) (length work) ≡ keyDraws (setOf set) (innerSeed (setOf set) seed))
         × (replicate (length work) 0 ≡ workLeft keyFits work)
     unfolding exchangeKeyAnswer
-    key-answers = first-decided keyFits encapsulateFits decapsulateFits (keyDraws (setOf set) (innerSeed (setOf set) seed)) work passed
+    key-answers = by-draws (keyDraws (setOf set) (innerSeed (setOf set) seed)) work (fits .0) refl
 
     -- what key promises: its answer, the keys, the work slice
     abbrev pub KeyPromised : Outcome → List ℕ → List ℕ → List ℕ → Type 0
@@ -115,9 +109,9 @@ module _ (set : ℕ) (seed message public secret sealed sent received work : Lis
       -- no draw was refused, so that demand 3 holds
       pub holds : Demand3 set (exchange seed message)
       holds =
-          let key = key-passed isExchange set _ _ _ _ key-fits in
+          let key = key-passed isExchange set _ _ _ _ (fits .0) in
           demand-3 set (exchange seed message) (omega (arith, key .0 .1))
-          (key .0 .2, key .1, encapsulate-passed set _ _ _ _ _ encapsulate-fits .2, bytes)
+          (key .0 .2, key .1, encrypt-passed isExchange set _ _ _ _ _ (fits .1) .2, bytes)
           (sym (key-answers .0) ∙ keyed)
 
       -- what key left
@@ -135,16 +129,16 @@ module _ (set : ℕ) (seed message public secret sealed sent received work : Lis
 
       -- the lengths of the work slice and of the ciphertext
       work-size : length work ≡ workLength (setOf set)
-      work-size = key-passed isExchange set _ _ _ _ key-fits .4
+      work-size = key-passed isExchange set _ _ _ _ (fits .0) .4
 
       cleared-size : length {A = ℕ} (replicate (length work) 0) ≡ workLength (setOf set)
       cleared-size = length-replicate {A = ℕ} (length work) 0 ∙ work-size
 
       sealed-size : length sealed ≡ ciphertextBytes set
-      sealed-size = encapsulate-passed set _ _ _ _ _ encapsulate-fits .3
+      sealed-size = encrypt-passed isExchange set _ _ _ _ _ (fits .1) .4
 
       sent-size : length sent ≡ 32
-      sent-size = encapsulate-passed set _ _ _ _ _ encapsulate-fits .4
+      sent-size = encrypt-passed isExchange set _ _ _ _ _ (fits .1) .3
 
       -- encapsulate is accepted
       abbrev closed : Outcome
@@ -173,7 +167,7 @@ module _ (set : ℕ) (seed message public secret sealed sent received work : Lis
         work₂-is = enclosed .1 .1 ∙ ap (workLeft _) work-is ∙ work-stays _ (length work)
 
         received-size : length received ≡ 32
-        received-size = decrypt-passed isExchange set _ _ _ _ decapsulate-fits .3
+        received-size = decrypt-passed isExchange set _ _ _ _ (fits .2) .3
 
         -- decapsulate is accepted
         abbrev reopened : Outcome
@@ -195,7 +189,7 @@ module _ (set : ℕ) (seed message public secret sealed sent received work : Lis
         -- all three calls are accepted
         pub all-accept : {o : Outcome} {received₁ work₃ : List ℕ} → DecapsulatePromised o received₁ work₃
             → Promised o public₁ secret₁ sealed₁ sent₁ received₁ work₃
-        unfolding shareAKeyWork shareAKeyChecked decapsulatedLeft decapsulateWork
+        unfolding shareAKeyWork decapsulatedLeft decapsulateWork
         all-accept {o} {received₁} {work₃} opened =
             let done : o ≡ accepted = opened .0 ∙ decapsulate-accepts in
             let cleared : work₃ ≡ workLeft allFit work =

@@ -1,5 +1,6 @@
--- What the functions answer and leave that call key, sealing and reading one after the other (01, What demand 3 speaks of; How each call answers).
--- The checks of all three calls come before the first of them, so that a refused one leaves every output as it was.
+-- What the functions answer and leave that call key, sealing and reading one after the other (01, What demand 3 speaks of; How each call answers;
+-- 02, No. 1).
+-- The checks of all three calls come before the first of them, in their order over all slices, so that a refused one leaves every output as it was.
 -- Assumes nothing.
 use mathlib.Core.Path.{_≡_, refl}
 use mathlib.Core.List.{List, []}
@@ -10,26 +11,15 @@ use Rattle.sets.specs.Table.{none, table, setOf}
 use Rattle.sets.specs.Derived.{isEncryption, isExchange}
 use Rattle.scheme.specs.Encryption.{secretSeed, publicKey, ciphertext}
 use Rattle.scheme.specs.Exchange.{innerSeed, exchangePublicKey, exchangeSecretKey, encapsulated}
-use Rattle.scheme.specs.Answers.{refuseSet, checks, keyChecks, encryptChecks, encapsulateChecks, decryptChecks, keyDraws, workLeft}
+use Rattle.scheme.specs.Answers.{refuseSet, checks, roundTripChecks, keyDraws, workLeft}
 use Rattle.claim.specs.Claim.{encryption, exchange, held, given}
 
--- the checks of key, of encrypt and of decrypt, by the lengths of seed, message, sealing seed, public key, secret key, ciphertext, message read, work slice
-abbrev pub sealAndReadChecks : (set seed message sealing public secret sealed read work : ℕ) → Outcome
-sealAndReadChecks set seed message sealing public secret sealed read work =
-    andThen (keyChecks isEncryption set seed public secret work)
-    (andThen (encryptChecks set public message sealing sealed work) (decryptChecks isEncryption set secret sealed read work))
-
--- the checks of key, of encapsulate and of decapsulate, by the lengths of seed, message, public key, secret key, ciphertext, both shared keys, work slice
-abbrev pub shareAKeyChecks : (set seed message public secret sealed sent received work : ℕ) → Outcome
-shareAKeyChecks set seed message public secret sealed sent received work =
-    andThen (keyChecks isExchange set seed public secret work)
-    (andThen (encapsulateChecks set public message sealed sent work) (decryptChecks isExchange set secret sealed received work))
-
--- the checks of all three calls on slices
 module _ (set : ℕ) (seed message sealing public secret sealed read work : List ℕ) where
+  -- the checks of key, encrypt and decrypt
   unfoldable pub sealAndReadChecked : Outcome
   sealAndReadChecked =
-      sealAndReadChecks set (length seed) (length message) (length sealing) (length public) (length secret) (length sealed) (length read) (length work)
+      roundTripChecks isEncryption set (length seed) (length message) (length sealing) (length read)
+      (length public) (length secret) (length sealed) (length work)
 
   -- after them only a draw of the key is refused: encrypt and decrypt accept what the call before them gave (`demand-3`)
   unfoldable pub sealAndReadAnswer : Outcome
@@ -52,9 +42,11 @@ module _ (set : ℕ) (seed message sealing public secret sealed read work : List
   sealAndReadWork = workLeft sealAndReadChecked work
 
 module _ (set : ℕ) (seed message public secret sealed sent received work : List ℕ) where
+  -- the checks of key, encapsulate and decapsulate
   unfoldable pub shareAKeyChecked : Outcome
   shareAKeyChecked =
-      shareAKeyChecks set (length seed) (length message) (length public) (length secret) (length sealed) (length sent) (length received) (length work)
+      roundTripChecks isExchange set (length seed) (length message) (length sent) (length received)
+      (length public) (length secret) (length sealed) (length work)
 
   -- after them only a draw of the inner key is refused
   unfoldable pub shareAKeyAnswer : Outcome
@@ -81,10 +73,10 @@ module _ (set : ℕ) (seed message public secret sealed sent received work : Lis
 
 -- a set of the key exchange is refused with 8, before any length is looked at
 sealAndReadAnswer-example : sealAndReadAnswer 7 [] [] [] [] [] [] [] [] ≡ refused 8 0
-unfolding none table setOf isEncryption refuseSet checks keyChecks sealAndReadChecked sealAndReadAnswer
+unfolding none table setOf isEncryption refuseSet checks roundTripChecks sealAndReadChecked sealAndReadAnswer
 sealAndReadAnswer-example = refl
 
 -- a set of the encryption scheme is refused with 8 by the key exchange
 shareAKeyAnswer-example : shareAKeyAnswer 6 [] [] [] [] [] [] [] [] ≡ refused 8 0
-unfolding none table setOf isExchange refuseSet checks keyChecks shareAKeyChecked shareAKeyAnswer
+unfolding none table setOf isExchange refuseSet checks roundTripChecks shareAKeyChecked shareAKeyAnswer
 shareAKeyAnswer-example = refl

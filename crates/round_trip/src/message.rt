@@ -5,33 +5,7 @@ ghost use Rattle.calls.specs.Outcome.{outcome, accepted, leaves};
 ghost use Rattle.sets.specs.Table.{setOf};
 ghost use Rattle.scheme.specs.Encryption.{secretSeed, publicKey, ciphertext};
 ghost use Rattle.claim.specs.Claim.{encryption, given, Demand3};
-ghost use Rattle.round_trip.specs.Answers.{sealAndReadChecks, sealAndReadAnswer, sealAndReadWork};
-
-// The checks of key, encrypt and decrypt, one after the other.
-fn checked(
-    set: usize,
-    seed: usize,
-    message: usize,
-    sealing: usize,
-    public: usize,
-    secret: usize,
-    sealed: usize,
-    read: usize,
-    work: usize,
-) -> Answer
-    ensures { λ r. ⌜ outcome r ≡ sealAndReadChecks set seed message sealing public secret sealed read work ⌝ }
-{
-    let number = sets::ENCRYPTION;
-    let keyed = scheme_checks::key_checked(number, set, seed, public, secret, work);
-    let Answer::Done = keyed else {
-        return keyed;
-    };
-    let encrypted = scheme_checks::encrypt_checked(set, public, message, sealing, sealed, work);
-    let Answer::Done = encrypted else {
-        return encrypted;
-    };
-    scheme_checks::decrypt_checked(number, set, secret, sealed, read, work)
-}
+ghost use Rattle.round_trip.specs.Answers.{sealAndReadAnswer, sealAndReadWork};
 
 // The keys of a seed, the ciphertext of the message under the public key so given, and the message read from both with the secret key so given.
 // Where it is accepted, demand 3 holds of these seeds and this message (`claim`): of the bits in the message read, which is what it calls `given`.
@@ -58,15 +32,16 @@ pub fn seal_and_read(
         (now (public .entry)) (now (secret .entry)) (now (sealed .entry)) (now (read .entry)) (now (work .entry)) ⌝ }
     ensures claim { λ r. ⌜ (outcome r ≡ accepted → Demand3 set (encryption (now (seed .entry)) (now (message .entry)) (now (sealing .entry)))) ⌝ }
 {
-    let checked = checked(
+    let checked = scheme_checks::round_trip_checked(
+        sets::ENCRYPTION,
         set,
         seed.len(),
         message.len(),
         sealing.len(),
+        read.len(),
         public.len(),
         secret.len(),
         sealed.len(),
-        read.len(),
         work.len(),
     );
     let Answer::Done = checked else {

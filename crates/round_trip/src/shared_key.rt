@@ -5,33 +5,7 @@ ghost use Rattle.calls.specs.Outcome.{outcome, accepted, leaves};
 ghost use Rattle.sets.specs.Table.{setOf};
 ghost use Rattle.scheme.specs.Exchange.{exchangePublicKey, exchangeSecretKey, encapsulated};
 ghost use Rattle.claim.specs.Claim.{exchange, held, given, Demand3};
-ghost use Rattle.round_trip.specs.Answers.{shareAKeyChecks, shareAKeyAnswer, shareAKeyWork};
-
-// The checks of key, encapsulate and decapsulate, one after the other.
-fn checked(
-    set: usize,
-    seed: usize,
-    message: usize,
-    public: usize,
-    secret: usize,
-    sealed: usize,
-    sent: usize,
-    received: usize,
-    work: usize,
-) -> Answer
-    ensures { λ r. ⌜ outcome r ≡ shareAKeyChecks set seed message public secret sealed sent received work ⌝ }
-{
-    let number = sets::EXCHANGE;
-    let keyed = scheme_checks::key_checked(number, set, seed, public, secret, work);
-    let Answer::Done = keyed else {
-        return keyed;
-    };
-    let encapsulated = scheme_checks::encapsulate_checked(set, public, message, sealed, sent, work);
-    let Answer::Done = encapsulated else {
-        return encapsulated;
-    };
-    scheme_checks::decrypt_checked(number, set, secret, sealed, received, work)
-}
+ghost use Rattle.round_trip.specs.Answers.{shareAKeyAnswer, shareAKeyWork};
 
 // The keys of a seed, the ciphertext and the shared key of the message under the public key so given, and the shared key of that ciphertext with the
 // secret key so given.
@@ -61,15 +35,16 @@ pub fn share_a_key(
         (now (public .entry)) (now (secret .entry)) (now (sealed .entry)) (now (sent .entry)) (now (received .entry)) (now (work .entry)) ⌝ }
     ensures claim { λ r. ⌜ (outcome r ≡ accepted → Demand3 set (exchange (now (seed .entry)) (now (message .entry)))) ⌝ }
 {
-    let checked = checked(
+    let checked = scheme_checks::round_trip_checked(
+        sets::EXCHANGE,
         set,
         seed.len(),
         message.len(),
+        sent.len(),
+        received.len(),
         public.len(),
         secret.len(),
         sealed.len(),
-        sent.len(),
-        received.len(),
         work.len(),
     );
     let Answer::Done = checked else {

@@ -1,6 +1,10 @@
-// Every set in both schemes with two choices of inputs: each slice one short and one long, then what the calls before made, then damaged.
+// Every set in both schemes with two choices of inputs: each slice one short and one long, and each two of them wrong at once, then what the calls
+// before made, then damaged.
 use crate::schemes;
 use report::lengths;
+
+// Where the first number of the ciphertext, of the public key inside the secret key and of the public key stands in the store.
+const LARGE: [usize; 3] = [schemes::SEALED, schemes::SECRET + 64, schemes::PUBLIC + 32];
 
 // Key. A secret key of the encryption scheme is short.
 pub fn key_line(is_exchange: bool, set: usize, change: usize, store: &mut [u8]) {
@@ -81,28 +85,33 @@ fn changed_line(is_exchange: bool, set: usize, i: usize, store: &mut [u8]) {
     }
 }
 
-// Line number i of a scheme: 36 lines for each choice of inputs, two choices for each set. What reads a key or a ciphertext takes what the lines before it
-// made; in the last three the modulus, which is no residue, stands for the first number of the ciphertext, of the secret key's public key, of the public key.
-pub fn line(is_exchange: bool, i: usize, store: &mut [u8]) {
-    let set = i / 72;
-    let step = i % 36;
-    lengths::fill_inputs(store, i / 36);
-    if step < 9 {
-        key_line(is_exchange, set, 8 - step, store);
-    } else if step < 20 {
-        seal_line(is_exchange, set, 19 - step, store);
-    } else if step < 29 {
-        open_line(is_exchange, set, 28 - step, store);
-    } else if step < 33 {
-        changed_line(is_exchange, set, step - 29, store);
-    } else if step == 33 {
-        report::put_number(store, schemes::SEALED, lengths::entry(set, 4));
-        open_line(is_exchange, set, 0, store);
-    } else if step == 34 {
-        report::put_number(store, schemes::SECRET + 64, lengths::entry(set, 4));
-        open_line(is_exchange, set, 0, store);
+// Seals or opens with the modulus, which is no residue, for the number at a place of the store, first with a work slice one short: for the first number of
+// the ciphertext, of the secret key's public key, of the public key.
+fn large_line(is_exchange: bool, set: usize, i: usize, store: &mut [u8]) {
+    let is_short = i % 2 == 0;
+    report::put_number(store, LARGE[i / 2 % 3], lengths::entry(set, 4));
+    if i < 4 {
+        open_line(is_exchange, set, if is_short { 8 } else { 0 }, store);
     } else {
-        report::put_number(store, schemes::PUBLIC + 32, lengths::entry(set, 4));
-        seal_line(is_exchange, set, 0, store);
+        seal_line(is_exchange, set, if is_short { 10 } else { 0 }, store);
+    }
+}
+
+// Line number i of a scheme: 61 lines for each choice of inputs, two choices for each set. What reads a key or a ciphertext takes what the lines before it
+// made.
+pub fn line(is_exchange: bool, i: usize, store: &mut [u8]) {
+    let set = i / 122;
+    let step = i % 61;
+    lengths::fill_inputs(store, i / 61);
+    if step < 15 {
+        key_line(is_exchange, set, lengths::change(4, 14 - step), store);
+    } else if step < 36 {
+        seal_line(is_exchange, set, lengths::change(5, 35 - step), store);
+    } else if step < 51 {
+        open_line(is_exchange, set, lengths::change(4, 50 - step), store);
+    } else if step < 55 {
+        changed_line(is_exchange, set, step - 51, store);
+    } else {
+        large_line(is_exchange, set, step - 55, store);
     }
 }

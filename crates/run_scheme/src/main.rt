@@ -30,19 +30,19 @@ fn part(i: usize, input: &[u8], store: &mut [u8]) {
         known::run(report::part(input, 97 * i, 97), store);
     } else if i < 30 {
         ties::run(i / 2 - 2, report::part(input, 450 + 22 * i, 22));
-    } else if i < 2046 {
-        cases::line(1038 <= i, (i - 30) % 1008, store);
-    } else if i < 2522 {
-        whole::line(2284 <= i, (i - 2046) % 238);
+    } else if i < 3446 {
+        cases::line(1738 <= i, (i - 30) % 1708, store);
+    } else if i < 4706 {
+        whole::line(4076 <= i, (i - 3446) % 630);
     } else {
-        sheet_part(i - 2522, input, store);
+        sheet_part(i - 4706, input, store);
     }
 }
 
 // All parts; the rounds are twenty.
 fn parts(input: &[u8], store: &mut [u8]) {
     let mut i: usize = 0;
-    while i < 2557 {
+    while i < 4741 {
         part(i, input, store);
         i += 1;
     }

@@ -1,4 +1,4 @@
-// The calls of both schemes with the lengths of a set, one of them changed. What they read and make stands in one store: inputs, public key, secret key,
+// The calls of both schemes with the lengths of a set, up to two of them changed. What they read and make stands in one store: inputs, public key, secret key,
 // ciphertext, each with one byte more than the largest has, so that every function takes one slice.
 use calls::Answer;
 use report::lengths;

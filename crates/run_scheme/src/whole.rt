@@ -1,8 +1,9 @@
-// Key, sealing and reading in one call, for every set in both schemes: each slice one short and one long.
+// Key, sealing and reading in one call, for every set in both schemes: each slice one short and one long, and each two of them wrong
+// at once.
 use calls::Answer;
 use report::lengths;
 
-// The call of one of the two schemes with the lengths of a set, one of them changed; only the encryption scheme has a sealing seed, its third slice, and
+// The call of one of the two schemes with the lengths of a set, up to two of them changed; only the encryption scheme has a sealing seed, its third slice, and
 // only the key exchange a shared key of the sender.
 fn answer(
     is_exchange: bool,
@@ -67,9 +68,14 @@ pub fn call(is_exchange: bool, set: usize, change: usize, inputs: &[u8]) {
     report::work_end(&work);
 }
 
-// Line number i: 17 lines for each set of a scheme.
+// Line number i: 45 lines for each set of a scheme.
 pub fn line(is_exchange: bool, i: usize) {
     let mut inputs = [0u8; 97];
     lengths::fill_inputs(&mut inputs, 0);
-    call(is_exchange, i / 17, 16 - i % 17, &inputs);
+    call(
+        is_exchange,
+        i / 45,
+        lengths::change(8, 44 - i % 45),
+        &inputs,
+    );
 }

@@ -1,24 +1,24 @@
 -- Laws of the answers: the checks of the set one by one, what the checks of each call tell where they pass, and what decides the answer.
 -- Assumes nothing.
 use mathlib.Core.Path.{_≡_, refl, _∙_}
-use mathlib.Core.Bool.{Bool, true, false, not}
+use mathlib.Core.Bool.{Bool, true, false, not, _&&_, false≢true}
 use mathlib.Core.List.{List}
 use Prim.Native.Nat.{ℕ, _≤_, _<_}
 use native.Mathlib.Omega.{arith}
 use borrow.Author.Tests.{lt-ltb, le-ltb, ltb-false, eqb-true, not-false}
-use lib.Dec.{ltb}
-use lib.ListN.{length, replicate}
+use lib.Dec.{ltb, eqb}
+use lib.ListN.{length, replicate, length-replicate}
 use Rattle.calls.specs.Outcome.{Outcome, accepted, refused, refuse, andThen}
 use Rattle.maths.specs.Vector.{at}
-use Rattle.calls.specs.Checks.{allOf, passing, below}
-use Rattle.calls.proofs.Outcome.{accepted-refused, refuse-accepted}
-use Rattle.calls.proofs.Checks.{Each, allOf-each, each-allOf, passing-all}
+use Rattle.calls.specs.Checks.{passing, below}
+use Rattle.calls.proofs.Outcome.{accepted-refused, refuse-accepted, leaves-same}
+use Rattle.calls.proofs.Checks.{passing-all}
 use Rattle.sets.specs.declared.Parameters.{Parameters}
 use Rattle.sets.specs.Table.{setOf, lastSet, noSet}
-use Rattle.sets.specs.Derived.{isEncryption, isExchange, publicKeyBytes, secretKeyBytes, ciphertextBytes}
+use Rattle.sets.specs.Derived.{publicKeyBytes, secretKeyBytes, ciphertextBytes}
 use Rattle.scheme.specs.Encryption.{cipherFirst}
 use Rattle.scheme.specs.Answers.{refuseSet, checks, workLeft, workLength, onlyResidues, secretDraw, decryptDraws}
-use Rattle.scheme.specs.Answers.{keyChecks, encryptChecks, encapsulateChecks, decryptChecks}
+use Rattle.scheme.specs.Answers.{publicFits, secretFits, keyChecks, encryptChecks, decryptChecks, roundTripChecks}
 
 -- numbers that are below q at every place pass the test
 pub all-below : (q : ℕ) (xs : List ℕ) → ((j : ℕ) → at xs j < q) → onlyResidues q xs ≡ true
@@ -66,66 +66,96 @@ module _ (isOwn : ℕ → Bool) (set : ℕ) where
   pub set-range : refuseSet isOwn set accepted ≡ accepted → Own
   set-range e = own accepted e .0
 
-  module _ (lengths : List Bool) where
-    -- the checks of the set refuse
-    pub set-refuses : {number place : ℕ} → refuseSet isOwn set accepted ≡ refused number place → checks isOwn set lengths ≡ refused number place
-    unfolding checks refuseSet
-    set-refuses e = decided (ltb set 1) (noSet set) (not (isOwn set)) e
-      where
-        decided : {number place : ℕ} (low high other : Bool) → refuse low 1 0 (refuse high 1 0 (refuse other 8 0 accepted)) ≡ refused number place
-            → refuse low 1 0 (refuse high 1 0 (refuse other 8 0 (refuse (not (allOf lengths)) 2 0 accepted))) ≡ refused number place
-        decided true high other e = e
-        decided false true other e = e
-        decided false false true e = e
-        decided false false false e = absurd (accepted-refused refl e)
+  -- the checks of the set refuse, whatever comes after them
+  pub set-refuses : (after : Outcome) {number place : ℕ}
+      → refuseSet isOwn set accepted ≡ refused number place → refuseSet isOwn set after ≡ refused number place
+  unfolding refuseSet
+  set-refuses after e = decided (ltb set 1) (noSet set) (not (isOwn set)) e
+    where
+      decided : {number place : ℕ} (low high other : Bool) → refuse low 1 0 (refuse high 1 0 (refuse other 8 0 accepted)) ≡ refused number place
+          → refuse low 1 0 (refuse high 1 0 (refuse other 8 0 after)) ≡ refused number place
+      decided true high other e = e
+      decided false true other e = e
+      decided false false true e = e
+      decided false false false e = absurd (accepted-refused refl e)
 
-    -- they pass: the lengths decide
-    pub lengths-decide : Own → checks isOwn set lengths ≡ refuse (not (allOf lengths)) 2 0 accepted
+  module _ (slices ciphertext work : Bool) where
+    -- the checks of the set pass: the lengths decide
+    pub lengths-decide : Own
+        → checks isOwn set slices ciphertext work ≡ refuse (not slices) 2 0 (refuse (not ciphertext) 9 0 (refuse (not work) 10 0 accepted))
     unfolding checks
-    lengths-decide own = set-own isOwn set (refuse (not (allOf lengths)) 2 0 accepted) (own .0) (own .1) (own .2)
+    lengths-decide own = set-own isOwn set _ (own .0) (own .1) (own .2)
 
-    -- every check passes where the set is the scheme's and each length is the set's
-    pub checks-pass : Own → Each lengths → checks isOwn set lengths ≡ accepted
-    checks-pass own each = lengths-decide own ∙ rw (each-allOf lengths each)
+    -- every check passes where the set is the scheme's and the lengths are the set's
+    pub checks-pass : Own → slices ≡ true → ciphertext ≡ true → work ≡ true → checks isOwn set slices ciphertext work ≡ accepted
+    checks-pass own s c w = lengths-decide own ∙ rw (s, c, w)
 
     -- and only there
-    pub checks-passed : checks isOwn set lengths ≡ accepted → Own × Each lengths
+    pub checks-passed : checks isOwn set slices ciphertext work ≡ accepted → Own × (slices ≡ true) × (ciphertext ≡ true) × (work ≡ true)
     unfolding checks
     checks-passed e =
         let o = own _ e in
-        (o .0, allOf-each lengths (not-false _ (refuse-accepted (not (allOf lengths)) 2 0 _ (o .1) .0)))
+        let s = refuse-accepted (not slices) 2 0 _ (o .1) in
+        let c = refuse-accepted (not ciphertext) 9 0 _ (s .1) in
+        let w = refuse-accepted (not work) 10 0 _ (c .1) in
+        (o .0, not-false _ (s .0), not-false _ (c .0), not-false _ (w .0))
+
+-- two lengths are the set's where each is
+pub both-fit : {a b : Bool} → a ≡ true → b ≡ true → a && b ≡ true
+both-fit f g = rw (f, g)
+
+-- and only there
+both : (a b : Bool) → a && b ≡ true → (a ≡ true) × (b ≡ true)
+both true b e = (refl, e)
+both false b e = absurd (false≢true e)
 
 -- what the checks of key tell where they pass
 pub key-passed : (isOwn : ℕ → Bool) (set seed pk sk work : ℕ) → keyChecks isOwn set seed pk sk work ≡ accepted
     → Own isOwn set × (seed ≡ 32) × (pk ≡ publicKeyBytes (setOf set)) × (sk ≡ secretKeyBytes set) × (work ≡ workLength (setOf set))
 unfolding keyChecks
 key-passed isOwn set seed pk sk work e =
-    let t = checks-passed isOwn set _ e in
-    (t .0, eqb-true _ _ (t .1 .0), eqb-true _ _ (t .1 .1 .0), eqb-true _ _ (t .1 .1 .1 .0), eqb-true _ _ (t .1 .1 .1 .1 .0))
+    let t = checks-passed isOwn set _ _ _ e in
+    let two = both (eqb seed 32 && publicFits set pk) (secretFits set sk) (t .1) in
+    let one = both (eqb seed 32) (publicFits set pk) (two .0) in
+    (t .0, eqb-true _ _ (one .0), eqb-true _ _ (one .1), eqb-true _ _ (two .1), eqb-true _ _ (t .3))
 
--- those of encrypt
-pub encrypt-passed : (set pk message seed ct work : ℕ) → encryptChecks set pk message seed ct work ≡ accepted
-    → Own isEncryption set × (pk ≡ publicKeyBytes (setOf set)) × (message ≡ 32) × (seed ≡ 32) × (ct ≡ ciphertextBytes set) × (work ≡ workLength (setOf set))
+-- those of encrypt and of encapsulate
+pub encrypt-passed : (isOwn : ℕ → Bool) (set pk message other ct work : ℕ) → encryptChecks isOwn set pk message other ct work ≡ accepted
+    → Own isOwn set × (pk ≡ publicKeyBytes (setOf set)) × (message ≡ 32) × (other ≡ 32) × (ct ≡ ciphertextBytes set) × (work ≡ workLength (setOf set))
 unfolding encryptChecks
-encrypt-passed set pk message seed ct work e =
-    let t = checks-passed isEncryption set _ e in
-    (t .0, eqb-true _ _ (t .1 .0), eqb-true _ _ (t .1 .1 .0), eqb-true _ _ (t .1 .1 .1 .0), eqb-true _ _ (t .1 .1 .1 .1 .0), eqb-true _ _ (t .1 .1 .1 .1 .1 .0))
-
--- those of encapsulate
-pub encapsulate-passed : (set pk message ct shared work : ℕ) → encapsulateChecks set pk message ct shared work ≡ accepted
-    → Own isExchange set × (pk ≡ publicKeyBytes (setOf set)) × (message ≡ 32) × (ct ≡ ciphertextBytes set) × (shared ≡ 32) × (work ≡ workLength (setOf set))
-unfolding encapsulateChecks
-encapsulate-passed set pk message ct shared work e =
-    let t = checks-passed isExchange set _ e in
-    (t .0, eqb-true _ _ (t .1 .0), eqb-true _ _ (t .1 .1 .0), eqb-true _ _ (t .1 .1 .1 .0), eqb-true _ _ (t .1 .1 .1 .1 .0), eqb-true _ _ (t .1 .1 .1 .1 .1 .0))
+encrypt-passed isOwn set pk message other ct work e =
+    let t = checks-passed isOwn set _ _ _ e in
+    let two = both (publicFits set pk && eqb message 32) (eqb other 32) (t .1) in
+    let one = both (publicFits set pk) (eqb message 32) (two .0) in
+    (t .0, eqb-true _ _ (one .0), eqb-true _ _ (one .1), eqb-true _ _ (two .1), eqb-true _ _ (t .2), eqb-true _ _ (t .3))
 
 -- those of decrypt and of decapsulate
 pub decrypt-passed : (isOwn : ℕ → Bool) (set sk ct given work : ℕ) → decryptChecks isOwn set sk ct given work ≡ accepted
     → Own isOwn set × (sk ≡ secretKeyBytes set) × (ct ≡ ciphertextBytes set) × (given ≡ 32) × (work ≡ workLength (setOf set))
 unfolding decryptChecks
 decrypt-passed isOwn set sk ct given work e =
-    let t = checks-passed isOwn set _ e in
-    (t .0, eqb-true _ _ (t .1 .0), eqb-true _ _ (t .1 .1 .0), eqb-true _ _ (t .1 .1 .1 .0), eqb-true _ _ (t .1 .1 .1 .1 .0))
+    let t = checks-passed isOwn set _ _ _ e in
+    let one = both (secretFits set sk) (eqb given 32) (t .1) in
+    (t .0, eqb-true _ _ (one .0), eqb-true _ _ (t .2), eqb-true _ _ (one .1), eqb-true _ _ (t .3))
+
+-- where the checks of a round trip pass, those of each of its calls do
+module _ (isOwn : ℕ → Bool) (set seed message other given pk sk ct work : ℕ) where
+  pub round-trip-passed : roundTripChecks isOwn set seed message other given pk sk ct work ≡ accepted
+      → (keyChecks isOwn set seed pk sk work ≡ accepted)
+      × (encryptChecks isOwn set pk message other ct work ≡ accepted)
+      × (decryptChecks isOwn set sk ct given work ≡ accepted)
+  unfolding keyChecks encryptChecks decryptChecks roundTripChecks
+  round-trip-passed e =
+      let t = checks-passed isOwn set _ _ _ e in
+      let five = both (eqb seed 32 && eqb message 32 && eqb other 32 && eqb given 32 && publicFits set pk) (secretFits set sk) (t .1) in
+      let four = both (eqb seed 32 && eqb message 32 && eqb other 32 && eqb given 32) (publicFits set pk) (five .0) in
+      let three = both (eqb seed 32 && eqb message 32 && eqb other 32) (eqb given 32) (four .0) in
+      let two = both (eqb seed 32 && eqb message 32) (eqb other 32) (three .0) in
+      let one = both (eqb seed 32) (eqb message 32) (two .0) in (
+        checks-pass isOwn set _ _ _ (t .0) (both-fit (both-fit (one .0) (four .1)) (five .1)) refl (t .3),
+        checks-pass isOwn set _ _ _ (t .0) (both-fit (both-fit (four .1) (one .1)) (two .1)) (t .2) (t .3),
+        checks-pass isOwn set _ _ _ (t .0) (both-fit (five .1) (three .1)) (t .2) (t .3),
+      )
 
 module _ {checked : Outcome} (draws : Outcome) (work : List ℕ) where
   -- the checks refuse: they decide the answer, and the work slice is left as it was
@@ -137,6 +167,11 @@ module _ {checked : Outcome} (draws : Outcome) (work : List ℕ) where
   pub by-draws : checked ≡ accepted → {left : List ℕ} → left ≡ replicate (length work) 0 → (andThen checked draws ≡ draws) × (left ≡ workLeft checked work)
   unfolding workLeft
   by-draws e cleared = (rw e, cleared ∙ rw e)
+
+-- a call leaves a cleared work slice cleared
+pub work-stays : (checked : Outcome) (n : ℕ) → workLeft checked (replicate n 0) ≡ replicate n 0
+unfolding workLeft
+work-stays checked n = rw (length-replicate {A = ℕ} n 0) (leaves-same checked (replicate n 0))
 
 module _ (p : Parameters) (sk ct : List ℕ) where
   -- a number of c1 is too large

@@ -1,14 +1,15 @@
--- What the calls of the encryption scheme and the key exchange answer and leave (01, How each call answers: Encryption scheme, Key exchange).
+-- What the calls of the encryption scheme and the key exchange answer and leave (01, How each call answers: Encryption scheme, Key exchange; 02, No. 1).
 -- Assumes nothing.
+use mathlib.Core.Path.{_≡_, refl}
 use mathlib.Core.Bool.{Bool, true, false, not, _&&_}
-use mathlib.Core.List.{List, [], _∷_}
+use mathlib.Core.List.{List}
 use Prim.Native.Nat.{ℕ, zero, suc, _+_, _*_}
 use lib.Dec.{ltb, eqb}
 use lib.ListN.{length, replicate, take, drop}
-use Rattle.calls.specs.Outcome.{Outcome, accepted, refuse, leaves, andThen}
-use Rattle.calls.specs.Checks.{allOf, passing, below}
+use Rattle.calls.specs.Outcome.{Outcome, accepted, refused, refuse, leaves, andThen}
+use Rattle.calls.specs.Checks.{passing, below}
 use Rattle.sets.specs.declared.Parameters.{Parameters}
-use Rattle.sets.specs.Table.{setOf, noSet}
+use Rattle.sets.specs.Table.{none, table, setOf, noSet}
 use Rattle.sets.specs.Derived.{isEncryption, isExchange, publicKeyBytes, secretKeyBytes, ciphertextBytes, errorCount}
 use Rattle.draws.specs.Uniform.{Drawn, taken, ended, exhausted}
 use Rattle.samplers.specs.Seeded.{secretDrawn, publicDrawn}
@@ -19,9 +20,11 @@ use Rattle.scheme.specs.Exchange.{innerSeed, exchangePublicKey, exchange
 unfoldable pub refuseSet : (ℕ → Bool) → ℕ → Outcome → Outcome
 refuseSet isOwn set after = refuse (ltb set 1) 1 0 (refuse (noSet set) 1 0 (refuse (not (isOwn set)) 8 0 after))
 
--- the checks of a call, which come before its draws: those of the set, then 2 when a length is not the set's
-unfoldable pub checks : (ℕ → Bool) → ℕ → List Bool → Outcome
-checks isOwn set lengths = refuseSet isOwn set (refuse (not (allOf lengths)) 2 0 accepted)
+-- the checks of a call, which come before its draws: those of the set, then 2 when the length of a seed, a message, a key or a shared key is not the set's,
+-- 9 when that of the ciphertext is not, 10 when that of the work slice is not
+unfoldable pub checks : (ℕ → Bool) → ℕ → (slices ciphertext work : Bool) → Outcome
+checks isOwn set slices ciphertext work =
+    refuseSet isOwn set (refuse (not slices) 2 0 (refuse (not ciphertext) 9 0 (refuse (not work) 10 0 accepted)))
 
 -- what a call leaves in the work slice: zeros where its checks passed, else what was there
 unfoldable pub workLeft : Outcome → List ℕ → List ℕ
@@ -74,29 +77,38 @@ decapsulateDraws p sk =
     refuse (not (onlyResidues (p .q) (keyNumbers p (drop 32 sk)))) 3 0
     (refuse (not (isTaken (secretDrawn p (secretSeed p (innerSeed p (take 32 sk)))))) 5 0 (encryptDraws p (drop 32 sk)))
 
--- the checks of key, by the lengths of seed, public key, secret key and work slice
-unfoldable pub keyChecks : (ℕ → Bool) → ℕ → ℕ → ℕ → ℕ → ℕ → Outcome
-keyChecks isOwn set seed pk sk work =
+-- whether the lengths of a public key, a secret key, a ciphertext and a work slice are those of a set
+abbrev pub publicFits : (set pk : ℕ) → Bool
+publicFits set pk = eqb pk (publicKeyBytes (setOf set))
+
+abbrev pub secretFits : (set sk : ℕ) → Bool
+secretFits set sk = eqb sk (secretKeyBytes set)
+
+abbrev pub ciphertextFits : (set ct : ℕ) → Bool
+ciphertextFits set ct = eqb ct (ciphertextBytes set)
+
+abbrev pub workFits : (set work : ℕ) → Bool
+workFits set work = eqb work (workLength (setOf set))
+
+-- the checks of key, which has no ciphertext, by the lengths of seed, public key, secret key and work slice
+unfoldable pub keyChecks : (ℕ → Bool) → (set seed pk sk work : ℕ) → Outcome
+keyChecks isOwn set seed pk sk work = checks isOwn set (eqb seed 32 && publicFits set pk && secretFits set sk) true (workFits set work)
+
+-- of encrypt and of encapsulate: public key, message, the sealing seed or the shared key, ciphertext, work slice
+unfoldable pub encryptChecks : (ℕ → Bool) → (set pk message other ct work : ℕ) → Outcome
+encryptChecks isOwn set pk message other ct work =
+    checks isOwn set (publicFits set pk && eqb message 32 && eqb other 32) (ciphertextFits set ct) (workFits set work)
+
+-- of decrypt and of decapsulate: secret key, ciphertext, the message or the shared key, work slice
+unfoldable pub decryptChecks : (ℕ → Bool) → (set sk ct given work : ℕ) → Outcome
+decryptChecks isOwn set sk ct given work = checks isOwn set (secretFits set sk && eqb given 32) (ciphertextFits set ct) (workFits set work)
+
+-- of key, sealing and reading in one call: the slices of all three
+unfoldable pub roundTripChecks : (ℕ → Bool) → (set seed message other given pk sk ct work : ℕ) → Outcome
+roundTripChecks isOwn set seed message other given pk sk ct work =
     checks isOwn set
-    (eqb seed 32 ∷ eqb pk (publicKeyBytes (setOf set)) ∷ eqb sk (secretKeyBytes set) ∷ eqb work (workLength (setOf set)) ∷ [])
-
--- of encrypt: public key, message, sealing seed, ciphertext, work slice
-unfoldable pub encryptChecks : ℕ → ℕ → ℕ → ℕ → ℕ → ℕ → Outcome
-encryptChecks set pk message seed ct work =
-    checks isEncryption set
-    (eqb pk (publicKeyBytes (setOf set)) ∷ eqb message 32 ∷ eqb seed 32 ∷ eqb ct (ciphertextBytes set) ∷ eqb work (workLength (setOf set)) ∷ [])
-
--- of encapsulate: public key, message, ciphertext, shared key, work slice
-unfoldable pub encapsulateChecks : ℕ → ℕ → ℕ → ℕ → ℕ → ℕ → Outcome
-encapsulateChecks set pk message ct shared work =
-    checks isExchange set
-    (eqb pk (publicKeyBytes (setOf set)) ∷ eqb message 32 ∷ eqb ct (ciphertextBytes set) ∷ eqb shared 32 ∷ eqb work (workLength (setOf set)) ∷ [])
-
--- of decrypt and of decapsulate: secret key, ciphertext, the message or shared key, work slice
-unfoldable pub decryptChecks : (ℕ → Bool) → ℕ → ℕ → ℕ → ℕ → ℕ → Outcome
-decryptChecks isOwn set sk ct given work =
-    checks isOwn set
-    (eqb sk (secretKeyBytes set) ∷ eqb ct (ciphertextBytes set) ∷ eqb given 32 ∷ eqb work (workLength (setOf set)) ∷ [])
+    (eqb seed 32 && eqb message 32 && eqb other 32 && eqb given 32 && publicFits set pk && secretFits set sk)
+    (ciphertextFits set ct) (workFits set work)
 
 -- key of the encryption scheme: its answer, and what it leaves in the public key, the secret key and the work slice
 unfoldable pub encryptionKeyAnswer : ℕ → List ℕ → ℕ → ℕ → ℕ → Outcome
@@ -114,14 +126,14 @@ encryptionKeyWork set seed pk sk work = workLeft (keyChecks isEncryption set (le
 -- encrypt: its answer, and what it leaves in the ciphertext and the work slice
 unfoldable pub encryptAnswer : ℕ → List ℕ → List ℕ → List ℕ → ℕ → ℕ → Outcome
 encryptAnswer set pk message seed ct work =
-    andThen (encryptChecks set (length pk) (length message) (length seed) ct work) (encryptDraws (setOf set) pk)
+    andThen (encryptChecks isEncryption set (length pk) (length message) (length seed) ct work) (encryptDraws (setOf set) pk)
 
 unfoldable pub ciphertextLeft : ℕ → List ℕ → List ℕ → List ℕ → List ℕ → List ℕ → List ℕ
 ciphertextLeft set pk message seed ct work =
     leaves (encryptAnswer set pk message seed (length ct) (length work)) (ciphertext (setOf set) pk message seed) ct
 
 unfoldable pub encryptWork : ℕ → List ℕ → List ℕ → List ℕ → List ℕ → List ℕ → List ℕ
-encryptWork set pk message seed ct work = workLeft (encryptChecks set (length pk) (length message) (length seed) (length ct) (length work)) work
+encryptWork set pk message seed ct work = workLeft (encryptChecks isEncryption set (length pk) (length message) (length seed) (length ct) (length work)) work
 
 -- decrypt: its answer, and what it leaves in the message and the work slice
 unfoldable pub decryptAnswer : ℕ → List ℕ → List ℕ → ℕ → ℕ → Outcome
@@ -149,7 +161,7 @@ exchangeKeyWork set seed pk sk work = workLeft (keyChecks isExchange set (length
 
 -- encapsulate: its answer, and what it leaves in the ciphertext, the shared key and the work slice
 unfoldable pub encapsulateAnswer : ℕ → List ℕ → ℕ → ℕ → ℕ → ℕ → Outcome
-encapsulateAnswer set pk message ct shared work = andThen (encapsulateChecks set (length pk) message ct shared work) (encryptDraws (setOf set) pk)
+encapsulateAnswer set pk message ct shared work = andThen (encryptChecks isExchange set (length pk) message shared ct work) (encryptDraws (setOf set) pk)
 
 unfoldable pub encapsulatedLeft : ℕ → List ℕ → List ℕ → List ℕ → List ℕ → List ℕ → List ℕ
 encapsulatedLeft set pk message ct shared work =
@@ -161,7 +173,7 @@ sharedKeyLeft set pk message ct shared work =
 
 unfoldable pub encapsulateWork : ℕ → List ℕ → List ℕ → List ℕ → List ℕ → List ℕ → List ℕ
 encapsulateWork set pk message ct shared work =
-    workLeft (encapsulateChecks set (length pk) (length message) (length ct) (length shared) (length work)) work
+    workLeft (encryptChecks isExchange set (length pk) (length message) (length shared) (length ct) (length work)) work
 
 -- decapsulate: its answer, and what it leaves in the shared key and the work slice
 unfoldable pub decapsulateAnswer : ℕ → List ℕ → ℕ → ℕ → ℕ → Outcome
@@ -173,3 +185,23 @@ decapsulatedLeft set sk ct shared work =
 
 unfoldable pub decapsulateWork : ℕ → List ℕ → List ℕ → List ℕ → List ℕ → List ℕ
 decapsulateWork set sk ct shared work = workLeft (decryptChecks isExchange set (length sk) (length ct) (length shared) (length work)) work
+
+-- a key is looked at before ciphertext and work slice
+checks-example : checks isEncryption 1 false false false ≡ refused 2 0
+unfolding none table setOf isEncryption refuseSet checks
+checks-example = refl
+
+-- the ciphertext before the work slice
+checks-example₂ : checks isEncryption 1 true false false ≡ refused 9 0
+unfolding none table setOf isEncryption refuseSet checks
+checks-example₂ = refl
+
+-- the work slice last
+checks-example₃ : checks isEncryption 1 true true false ≡ refused 10 0
+unfolding none table setOf isEncryption refuseSet checks
+checks-example₃ = refl
+
+-- and the set before every length
+checks-example₄ : checks isEncryption 7 false false false ≡ refused 8 0
+unfolding none table setOf isEncryption refuseSet checks
+checks-example₄ = refl

@@ -19,7 +19,12 @@ fn main() -> Result<(), Refused> {
     decapsulate(set, &secret_key, &ciphertext, &mut lock, &mut work)?;
     println!("after damage: {}", if office == lock { "the same key" } else { "the reject key" });
 
+    // Which length was off: 2 for a key, 9 for the ciphertext, 10 for the work slice.
     let short = encapsulate(set, &public_key[1..], &message, &mut ciphertext, &mut office, &mut work);
     println!("a public key one byte short: {}", short.unwrap_err());
+    let short = decapsulate(set, &secret_key, &ciphertext[1..], &mut lock, &mut work);
+    println!("a ciphertext one byte short: {}", short.unwrap_err());
+    let short = decapsulate(set, &secret_key, &ciphertext, &mut lock, &mut work[1..]);
+    println!("a work slice one number short: {}", short.unwrap_err());
     Ok(())
 }

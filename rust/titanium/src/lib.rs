@@ -3,12 +3,13 @@
 
 mod raw;
 
-/// Why a call was refused; the place where the paper names one.
+/// Why a call was refused; the place where the paper names one. docs/REFUSALS.md says what to look at for each number.
 #[derive(Clone, Copy, Debug, PartialEq, Eq)]
+#[non_exhaustive]
 pub enum Refused {
     /// 1: no such set.
     NoSuchSet,
-    /// 2: a slice has not the set's length.
+    /// 2: a slice has not the set's length; in the encryption scheme and the key exchange that of a seed, a message, a key or a shared key.
     WrongLength { place: u32 },
     /// 3: a number out of range.
     OutOfRange { place: u32 },
@@ -22,6 +23,12 @@ pub enum Refused {
     TooLong,
     /// 8: a set of the other scheme.
     OtherScheme,
+    /// 9: the ciphertext has not the set's length.
+    CiphertextLength,
+    /// 10: the work slice has not the set's length.
+    WorkLength,
+    /// A number that this version does not know.
+    Unknown { number: u8, place: u32 },
 }
 
 impl Refused {
@@ -36,13 +43,17 @@ impl Refused {
             Refused::Unfit => 6,
             Refused::TooLong => 7,
             Refused::OtherScheme => 8,
+            Refused::CiphertextLength => 9,
+            Refused::WorkLength => 10,
+            Refused::Unknown { number, .. } => number,
         }
     }
 
     /// Its place, 0 where none is named.
     pub fn place(self) -> u32 {
         match self {
-            Refused::WrongLength { place } | Refused::OutOfRange { place } | Refused::BytesEnd { place } | Refused::Exhausted { place } => place,
+            Refused::WrongLength { place } | Refused::OutOfRange { place } | Refused::BytesEnd { place } => place,
+            Refused::Exhausted { place } | Refused::Unknown { place, .. } => place,
             _ => 0,
         }
     }
@@ -68,7 +79,10 @@ fn answer(code: u64) -> Result<(), Refused> {
         5 => Err(Refused::Exhausted { place }),
         6 => Err(Refused::Unfit),
         7 => Err(Refused::TooLong),
-        _ => Err(Refused::OtherScheme),
+        8 => Err(Refused::OtherScheme),
+        9 => Err(Refused::CiphertextLength),
+        10 => Err(Refused::WorkLength),
+        number => Err(Refused::Unknown { number: number as u8, place }),
     }
 }
 
@@ -420,4 +434,21 @@ pub fn noise_sheet(input: &[u8]) -> Vec<u8> {
     let length = unsafe { raw::titanium_noise_sheet(input.as_ptr(), input.len(), text.as_mut_ptr(), text.len(), work.as_mut_ptr(), work.len()) };
     text.truncate(length);
     text
+}
+
+#[cfg(test)]
+mod tests {
+    use super::{answer, Refused};
+
+    /// Every number keeps itself and its place, one that is not known too.
+    #[test]
+    fn numbers_and_places() {
+        assert_eq!(answer(0), Ok(()));
+        assert_eq!(answer(9), Err(Refused::CiphertextLength));
+        assert_eq!(answer(10), Err(Refused::WorkLength));
+        assert_eq!(answer(11 + 256 * 5), Err(Refused::Unknown { number: 11, place: 5 }));
+        for number in 1..=255 {
+            assert_eq!(answer(number).unwrap_err().number() as u64, number);
+        }
+    }
 }

@@ -7,6 +7,7 @@ use borrow.Author.Needs.{needs}
 use lib.ListN.{length, replicate}
 use Rattle.calls.specs.Outcome.{outcome, accepted}
 use Rattle.sets.specs.Table.{setOf}
+use Rattle.sets.specs.Derived.{isEncryption}
 use Rattle.sets.proofs.Schemes.{encryption-only}
 use Rattle.sets.proofs.Lengths.{ciphertext-other}
 use Rattle.scheme.specs.Encryption as scheme
@@ -22,12 +23,13 @@ start-of c = c .before .before .before .before .before .before .before .before
 
 -- the checks passed
 passed : (c : tie.After-enum-told) → let args = start-of c .args in
-    encryptChecks (args .set) (length (args .public .now)) (length (args .message .now)) (length (args .seed .now))
+    encryptChecks isEncryption (args .set) (length (args .public .now)) (length (args .message .now)) (length (args .seed .now))
     (length (args .ciphertext .now)) (length (args .work .now)) ≡ accepted
+unfolding isEncryption
 passed c = sym (c .before .before .encrypt-checked .ensures) ∙ ap outcome (c .enum-told .given .1)
 
 returns : tie.Need-returns
-unfolding encryptAnswer ciphertextLeft encryptWork
+unfolding isEncryption encryptAnswer ciphertextLeft encryptWork
 returns c =
     let args = c .before .before .before .before .before .before .before .before .args in
     let p = setOf (args .set) in
@@ -39,7 +41,7 @@ encrypt-requires : tie.Need-encrypt-requires
 encrypt-requires c κs =
     let checked = c .before .before in
     let set = start-of checked .args .set in
-    let fit = encrypt-passed set _ _ _ _ _ (passed checked) in
+    let fit = encrypt-passed isEncryption set _ _ _ _ _ (passed checked) in
     (fit .0 .0, omega (arith, fit .0 .1), fit .1, fit .2, fit .3, fit .4 ∙ ciphertext-other set (encryption-only set (fit .0 .2)), fit .5)
 
 returns-2 : tie.Need-returns-2

@@ -7,10 +7,11 @@ use borrow.Author.Needs.{needs}
 use lib.ListN.{length, replicate}
 use Rattle.calls.specs.Outcome.{outcome, accepted}
 use Rattle.sets.specs.Table.{setOf}
+use Rattle.sets.specs.Derived.{isExchange}
 use Rattle.sets.proofs.Lengths.{ciphertext-exchange}
 use Rattle.scheme.specs.Exchange.{encapsulated, sharedKey}
-use Rattle.scheme.specs.Answers.{encapsulateChecks, encryptDraws, encapsulateAnswer, encapsulatedLeft, sharedKeyLeft, encapsulateWork}
-use Rattle.scheme.proofs.Answers.{encapsulate-passed}
+use Rattle.scheme.specs.Answers.{encryptChecks, encryptDraws, encapsulateAnswer, encapsulatedLeft, sharedKeyLeft, encapsulateWork}
+use Rattle.scheme.proofs.Answers.{encrypt-passed}
 use Rattle.scheme_checks.proofs.Laws.{two-refused, two-drawn}
 use Rattle.exchange.proofs.encapsulate.Statement.{statement}
 use Rattle.exchange.proofs.encapsulate.Tie as tie
@@ -21,26 +22,27 @@ start-of c = c .before .before .before .before .before .before .before .before
 
 -- the checks passed
 passed : (c : tie.After-enum-told) → let args = start-of c .args in
-    encapsulateChecks (args .set) (length (args .public .now)) (length (args .message .now)) (length (args .ciphertext .now))
-    (length (args .shared .now)) (length (args .work .now)) ≡ accepted
-passed c = sym (c .before .before .encapsulate-checked .ensures) ∙ ap outcome (c .enum-told .given .1)
+    encryptChecks isExchange (args .set) (length (args .public .now)) (length (args .message .now)) (length (args .shared .now))
+    (length (args .ciphertext .now)) (length (args .work .now)) ≡ accepted
+unfolding isExchange
+passed c = sym (c .before .before .encrypt-checked .ensures) ∙ ap outcome (c .enum-told .given .1)
 
 returns : tie.Need-returns
-unfolding encapsulateAnswer encapsulatedLeft sharedKeyLeft encapsulateWork
+unfolding isExchange encapsulateAnswer encapsulatedLeft sharedKeyLeft encapsulateWork
 returns c =
     let args = c .before .before .before .before .before .before .before .before .args in
     let p = setOf (args .set) in
     two-refused (encryptDraws p (args .public .now)) (args .work .now)
     (encapsulated p (args .public .now) (args .message .now)) (args .ciphertext .now)
     (sharedKey p (args .public .now) (args .message .now)) (args .shared .now)
-    (c .before .before .encapsulate-checked .ensures) (ap outcome (c .enum-told2 .given .1))
+    (c .before .before .encrypt-checked .ensures) (ap outcome (c .enum-told2 .given .1))
 
 encapsulated-key-requires : tie.Need-encapsulated-key-requires
 encapsulated-key-requires c κs =
     let checked = c .before .before .before in
     let set = start-of checked .args .set in
-    let fit = encapsulate-passed set _ _ _ _ _ (passed checked) in
-    (fit .0 .0, omega (arith, fit .0 .1), fit .1, fit .2, fit .3 ∙ ciphertext-exchange set (fit .0 .2), fit .4, fit .5)
+    let fit = encrypt-passed isExchange set _ _ _ _ _ (passed checked) in
+    (fit .0 .0, omega (arith, fit .0 .1), fit .1, fit .2, fit .4 ∙ ciphertext-exchange set (fit .0 .2), fit .3, fit .5)
 
 returns-2 : tie.Need-returns-2
 unfolding encapsulateAnswer encapsulatedLeft sharedKeyLeft encapsulateWork

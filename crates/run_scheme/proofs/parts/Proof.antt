@@ -11,7 +11,7 @@ abbrev Inv-loop : tie.InvT-loop
 Inv-loop input store₀ i₀ store i = length store ≡ length store₀
 
 abbrev μ-loop : tie.MeasureT-loop
-μ-loop input store₀ i₀ store i = 2557 - i
+μ-loop input store₀ i₀ store i = 4741 - i
 
 pub parts-spec : {M : Type 1} → statement M
 parts-spec =

@@ -5,9 +5,8 @@ use native.Mathlib.Omega.{arith}
 use borrow.Author.Needs.{needs}
 use Rattle.calls.specs.Outcome.{outcome}
 use Rattle.sets.specs.Table.{IsSet}
-use Rattle.sets.proofs.Rules.{rules}
 use Rattle.sets.specs.Derived.{isOf}
-use Rattle.scheme.specs.Answers.{decryptChecks}
+use Rattle.scheme.specs.Answers.{checks, decryptChecks}
 use Rattle.scheme.proofs.Answers.{Own, set-range, set-refuses, lengths-decide}
 use Rattle.scheme_checks.proofs.decrypt_checked.Statement.{statement}
 use Rattle.scheme_checks.proofs.decrypt_checked.Tie as tie
@@ -24,38 +23,31 @@ is-set : (c : tie.After-enum-told) → IsSet (start-of c .args .set)
 is-set c = omega (arith, own c .1)
 
 returns : tie.Need-returns
-unfolding decryptChecks
+unfolding checks decryptChecks
 returns c = let told = ap outcome (c .enum-told2 .given .1) in told ∙ sym (set-refuses _ _ _ (sym (c .before .before .set-checked .ensures) ∙ told))
 
-secret-key-bytes-requires : tie.Need-secret-key-bytes-requires
-secret-key-bytes-requires c κs = is-set c
+secret-fits-requires : tie.Need-secret-fits-requires
+secret-fits-requires c κs = is-set c
 
-ciphertext-bytes-requires : tie.Need-ciphertext-bytes-requires
-ciphertext-bytes-requires c κs = is-set (c .before)
+ciphertext-fits-requires : tie.Need-ciphertext-fits-requires
+ciphertext-fits-requires c κs = is-set (c .before)
 
-parameters-of-requires : tie.Need-parameters-of-requires
-parameters-of-requires c κs = is-set (c .before .before)
-
-work-length-requires : tie.Need-work-length-requires
-work-length-requires c κs = rw (← c .parameters-of .ensures) at (rules _ (is-set (c .before .before .before)))
+work-fits-requires : tie.Need-work-fits-requires
+work-fits-requires c κs = is-set (c .before .before)
 
 returns-2 : tie.Need-returns-2
 unfolding decryptChecks
 returns-2 c =
-    let checked = c .before .before .before .before .before .before in
     c .lengths-checked .ensures
     ∙ rw (
-      c .before .four-equal .ensures,
-      c .before .before .work-length .ensures,
-      c .before .before .before .before .ciphertext-bytes .ensures,
-      c .before .before .before .before .before .secret-key-bytes .ensures,
-      c .before .before .before .parameters-of .ensures,
+      c .before .work-fits .ensures,
+      c .before .before .ciphertext-fits .ensures,
+      c .before .before .before .secret-fits .ensures,
     )
-    (sym (lengths-decide _ _ _ (own checked)))
+    (sym (lengths-decide _ _ _ _ _ (own (c .before .before .before .before))))
 
 pub decrypt-checked-spec : {M : Type 1} → statement M
 decrypt-checked-spec =
     tie.close
     (tie.spec (λ c κs. search needs) (λ c. search needs) (λ c. search needs) returns
-    secret-key-bytes-requires ciphertext-bytes-requires parameters-of-requires work-length-requires
-    (λ c κs. search needs) (λ c κs. search needs) returns-2)
+    secret-fits-requires ciphertext-fits-requires work-fits-requires (λ c κs. search needs) returns-2)

@@ -3,6 +3,8 @@
 use mathlib.Core.Path.{_≡_, sym, ap, _∙_}
 use borrow.Author.Needs.{needs}
 use Rattle.calls.specs.Outcome.{outcome, accepted}
+use Rattle.sets.specs.Derived.{isExchange}
+use Rattle.round_trip.specs.Answers.{shareAKeyChecked}
 use Rattle.round_trip.proofs.ShareAKey.{allFit, checks-refuse, key-refuses, all-accept}
 use Rattle.round_trip.proofs.shared_key.share_a_key.Statement.{statement}
 use Rattle.round_trip.proofs.shared_key.share_a_key.Tie as tie
@@ -21,14 +23,16 @@ key-of c = c .before .before .before .before .before .before .before .before
 passed : (c : tie.After-enum-told) → let args = start-of c .args in
     allFit (args .set) (args .seed .now) (args .message .now) (args .public .now) (args .secret .now) (args .sealed .now)
     (args .sent .now) (args .received .now) (args .work .now) ≡ accepted
-passed c = sym (c .before .before .checked .ensures) ∙ ap outcome (c .enum-told .given .1)
+unfolding isExchange shareAKeyChecked
+passed c = sym (c .before .before .round-trip-checked .ensures) ∙ ap outcome (c .enum-told .given .1)
 
 returns : tie.Need-returns
+unfolding isExchange shareAKeyChecked
 returns c =
     let args = slices-of (c .before .before .before .before .before .before .before .before .before) .args in
     checks-refuse (args .set) (args .seed .now) (args .message .now) (args .public .now) (args .secret .now) (args .sealed .now)
     (args .sent .now) (args .received .now) (args .work .now)
-    (c .before .before .checked .ensures) (ap outcome (c .enum-told2 .given .1))
+    (c .before .before .round-trip-checked .ensures) (ap outcome (c .enum-told2 .given .1))
 
 -- a draw of the key is refused
 returns-2 : tie.Need-returns-2
