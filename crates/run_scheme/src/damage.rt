@@ -10,8 +10,8 @@ use report::random;
 // Bytes of which each has one bit.
 const BITS: [u8; 8] = [1, 2, 4, 8, 16, 32, 64, 128];
 
-// Damages bytes by kind: random ones for all, the number before q or q at the place `first`, three bytes of ones or one bit at any place; in half of all
-// cases not at all.
+// Damages bytes by kind: random ones for all, the number before q (2^24 - 1 more, in three bytes) or q at the place `first`, three bytes of ones or one bit
+// at any place; in half of all cases not at all.
 fn damage(bytes: &mut [u8], group: usize, first: usize, q: usize) {
     let place = random::below(group, 110, bytes.len());
     let bit = random::below(group, 210, 8);
