@@ -28,9 +28,9 @@ fn answer(
     let read = lengths::output(received, 6, change);
     let lent = lengths::cut_work(work, set, 7, change);
     if is_exchange {
-        round_trip::shared_key::share_a_key(set, seed, message, key, own, text, given, read, lent)
+        share_a_key::share_a_key(set, seed, message, key, own, text, given, read, lent)
     } else {
-        round_trip::message::seal_and_read(set, seed, message, sealing, key, own, text, read, lent)
+        seal_and_read::seal_and_read(set, seed, message, sealing, key, own, text, read, lent)
     }
 }
 

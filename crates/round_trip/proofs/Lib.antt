@@ -1,2 +1,0 @@
-pub mod SealAndRead
-pub mod ShareAKey
