@@ -1,10 +1,10 @@
--- `c_numbers::titanium_transformed_middle_product` gives the answer of the call in one number, and leaves what the call leaves.
+-- `c_ntt_middle::titanium_transformed_middle_product` gives the answer of the call in one number, and leaves what the call leaves.
 -- Assumes nothing.
 use mathlib.Core.Path.{ap, _∙_}
 use borrow.Author.Needs.{needs}
 use Rattle.c_answer.specs.Coded.{coded}
-use Rattle.c_numbers.proofs.titanium_transformed_middle_product.Statement.{statement}
-use Rattle.c_numbers.proofs.titanium_transformed_middle_product.Tie as tie
+use Rattle.c_ntt_middle.proofs.titanium_transformed_middle_product.Statement.{statement}
+use Rattle.c_ntt_middle.proofs.titanium_transformed_middle_product.Tie as tie
 
 returns : tie.Need-returns
 returns c = let made = c .before .before .before .before .before .middle-product .ensures in (c .code .ensures ∙ ap coded (made .0), made .1)
