@@ -1,5 +1,6 @@
 pub mod Digits
 pub mod Position
 pub mod Dropped
+pub mod Words
 pub mod Message
 pub mod Laws

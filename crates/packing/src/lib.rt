@@ -1,8 +1,9 @@
 // Numbers packed into bytes without gaps, and back (003, algorithms 17 to 22), and the bits of a message (algorithms 27 and 28).
 ghost use mathlib.Core.Path.{_≡_};
 ghost use Prim.Native.Nat.{_+_, _*_, _/_, _%_, _^_, _<_, _≤_};
-ghost use lib.ListN.{length, drop};
+ghost use lib.ListN.{length, drop, take, set};
 ghost use Rattle.maths.specs.Vector.{at};
+ghost use Rattle.calls.specs.Region.{over};
 ghost use Rattle.packing.specs.Digits.{Digit, value, pack, unpack, fourBytes};
 ghost use Rattle.packing.specs.Dropped.{Widths, packDropping, unpackDropped};
 ghost use Rattle.packing.specs.Message.{messageBits, messageBytes};
@@ -35,6 +36,69 @@ fn byte_of(numbers: &[u32], i: usize, bit: u32, kept: u32, cmp: u32) -> u8
     (((first + (second << kept)) >> bit) % 256) as u8
 }
 
+// The number of `kept` bits in which byte j begins, and the bit of it: 8 numbers are `kept` bytes.
+fn number_with(j: usize, kept: u32) -> usize
+    requires { ⌜ (8 ≤ kept) × (kept ≤ 24) ⌝ }
+    ensures { λ r. ⌜ r ≡ j / kept * 8 + j % kept * 8 / kept ⌝ }
+{
+    let group = kept as usize;
+    j / group * 8 + j % group * 8 / group
+}
+
+fn bit_of(j: usize, kept: u32) -> u32
+    requires { ⌜ (8 ≤ kept) × (kept ≤ 24) ⌝ }
+    ensures { λ r. ⌜ r ≡ j % kept * 8 % kept ⌝ }
+{
+    let group = kept as usize;
+    (j % group * 8 % group) as u32
+}
+
+// The bits held, with those of one more number above them.
+fn held_with(held: u64, bits: u32, number: u64, cmp: u32) -> u64
+    requires { ⌜ (bits < 32) × (held < 2 ^ bits) × (cmp ≤ 24) × (number < 2 ^ 32) ⌝ }
+    ensures { λ r. ⌜ r ≡ held + number / 2 ^ cmp * 2 ^ bits ⌝ }
+{
+    held + ((number >> cmp) << bits)
+}
+
+// Writes the low four bytes of a number from place j on.
+fn store_four(out: &mut [u8], j: usize, held: u64)
+    requires { ⌜ j + 4 ≤ length (now out) ⌝ }
+    ensures { λ _. ⌜ now (out .exit) ≡ set (set (set (set (now (out .entry)) j (held % 2 ^ 8)) (j + 1) (held / 2 ^ 8 % 2 ^ 8)) (j + 2) (held / 2 ^ 16 % 2 ^ 8))
+        (j + 3) (held / 2 ^ 24 % 2 ^ 8) ⌝ }
+{
+    out[j] = (held % 256) as u8;
+    out[j + 1] = ((held >> 8) % 256) as u8;
+    out[j + 2] = ((held >> 16) % 256) as u8;
+    out[j + 3] = ((held >> 24) % 256) as u8;
+}
+
+// Packs as `pack_dropping` does, four bytes at a time, and gives how many bytes are written: all but the last three at most.
+fn pack_words(numbers: &[u32], width: u32, cmp: u32, out: &mut [u8]) -> usize
+    requires { ⌜ Widths width cmp ⌝ }
+    requires { ⌜ Digit width (now numbers) ⌝ }
+    ensures { λ r. ⌜ (r ≤ length (now (out .entry)))
+        × (now (out .exit) ≡ over (now (out .entry)) 0 (take r (packDropping width cmp (length (now (out .entry))) (now (numbers .entry))))) ⌝ }
+{
+    let kept = width - cmp;
+    let mut held: u64 = 0;
+    let mut bits: u32 = 0;
+    let mut i: usize = 0;
+    let mut j: usize = 0;
+    while j + 4 <= out.len() {
+        held = held_with(held, bits, number_at(numbers, i), cmp);
+        bits += kept;
+        i += 1;
+        if bits >= 32 {
+            store_four(out, j, held);
+            held >>= 32;
+            bits -= 32;
+            j += 4;
+        }
+    }
+    j
+}
+
 // Packs numbers of `width` bits each without their low `cmp` bits into all of `out`.
 pub fn pack_dropping(numbers: &[u32], width: u32, cmp: u32, out: &mut [u8])
     requires { ⌜ Widths width cmp ⌝ }
@@ -42,9 +106,9 @@ pub fn pack_dropping(numbers: &[u32], width: u32, cmp: u32, out: &mut [u8])
     ensures { λ _. ⌜ now (out .exit) ≡ packDropping width cmp (length (now (out .entry))) (now (numbers .entry)) ⌝ }
 {
     let kept = width - cmp;
-    let mut i: usize = 0;
-    let mut bit: u32 = 0;
-    let mut j: usize = 0;
+    let mut j = pack_words(numbers, width, cmp, out);
+    let mut i = number_with(j, kept);
+    let mut bit = bit_of(j, kept);
     while j < out.len() {
         out[j] = byte_of(numbers, i, bit, kept, cmp);
         bit += 8;
@@ -65,8 +129,26 @@ pub fn pack_into(numbers: &[u32], width: u32, out: &mut [u8])
     pack_dropping(numbers, width, 0, out);
 }
 
-// The four bytes from place j on as one number, the least significant first.
-fn window_at(bytes: &[u8], j: usize) -> u32
+// A byte as a larger number.
+fn wide(x: u8) -> u32
+    ensures { λ r. ⌜ (r ≡ x) × (r < 2 ^ 8) ⌝ }
+{
+    x as u32
+}
+
+// The four bytes from place j on as one number, the least significant first, where all of them are there: one read.
+fn word_at(bytes: &[u8], j: usize) -> u32
+    requires { ⌜ j + 4 ≤ length (now bytes) ⌝ }
+    ensures { λ r. ⌜ r ≡ fourBytes (now (bytes .entry)) j ⌝ }
+{
+    wide(bytes[j])
+        + (wide(bytes[j + 1]) << 8)
+        + (wide(bytes[j + 2]) << 16)
+        + (wide(bytes[j + 3]) << 24)
+}
+
+// The same near the end, where some of them may be past it.
+fn last_word_at(bytes: &[u8], j: usize) -> u32
     requires { ⌜ j < 2 ^ 63 ⌝ }
     ensures { λ r. ⌜ r ≡ fourBytes (now (bytes .entry)) j ⌝ }
 {
@@ -74,6 +156,18 @@ fn window_at(bytes: &[u8], j: usize) -> u32
         + (byte_at(bytes, j + 1) << 8)
         + (byte_at(bytes, j + 2) << 16)
         + (byte_at(bytes, j + 3) << 24)
+}
+
+// The same anywhere.
+fn window_at(bytes: &[u8], j: usize) -> u32
+    requires { ⌜ j < 2 ^ 63 ⌝ }
+    ensures { λ r. ⌜ r ≡ fourBytes (now (bytes .entry)) j ⌝ }
+{
+    if j + 4 <= bytes.len() {
+        word_at(bytes, j)
+    } else {
+        last_word_at(bytes, j)
+    }
 }
 
 // The number whose `kept` high bits begin at a bit of byte j, with zeros for its low `cmp`.
