@@ -2,7 +2,7 @@
 -- Assumes nothing.
 use mathlib.Core.Path.{_≡_, refl, ap, _∙_}
 use mathlib.Core.List.{List, [], _∷_}
-use Prim.Native.Nat.{ℕ, zero, suc, _+_, _*_, _/_, _≤_, _<_}
+use Prim.Native.Nat.{ℕ, zero, suc, _+_, _*_, _/_, _^_, _≤_, _<_}
 use native.Mathlib.Numerals.{add-one}
 use native.Mathlib.Omega.{arith}
 use lib.ListN.{length, getD, drop, length-drop}
@@ -49,6 +49,10 @@ module _ (bytes : List ℕ) (position : ℕ) where
         ap (λ (k : ℕ). littleEndian (region bytes k 1)) next,
         little-none bytes (position + 2 + 1),
       )
+
+  -- is below 2^24
+  pub little-three-below : position + 3 ≤ length bytes → ((k : ℕ) → getD bytes k 0 < 256) → littleEndian (region bytes position 3) < 2 ^ 24
+  little-three-below h byte = omega (arith, little-three h, byte position, byte (position + 1), byte (position + 2))
 
 -- fewer than three bytes hold no candidate
 few-none : (bytes : List ℕ) → length bytes < 3 → candidates bytes ≡ []

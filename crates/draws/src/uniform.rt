@@ -26,11 +26,12 @@ pub fn candidate_at(bytes: &[u8], position: usize) -> u32
 }
 
 // One residue modulo q from the bytes from a position on, with `before` candidates set aside in a row for it so far: the one loop over candidates,
-// which the draws from a seed use too.
+// which the draws from a seed use too. The scale of q is worked out before anything is looked at, so that a loop of draws works it out once.
 pub fn draw_one(bytes: &[u8], at: usize, q: u32, threshold: u32, before: u32) -> Draw
     requires { ⌜ (0 < q) × (before < 128) ⌝ }
     ensures { λ r. ⌜ sample r ≡ sampleAt q threshold before (now (bytes .entry)) at ⌝ }
 {
+    let scale = residues::scale(q);
     if bytes.len() < 3 {
         return Draw::Refused(4);
     }
@@ -41,7 +42,7 @@ pub fn draw_one(bytes: &[u8], at: usize, q: u32, threshold: u32, before: u32) ->
         let candidate = candidate_at(bytes, position);
         position += 3;
         if candidate < threshold {
-            return Draw::Number(residues::reduce(candidate as u64, q), position);
+            return Draw::Number(residues::reduce_scaled(candidate, q, scale), position);
         }
         run += 1;
         if run == 128 {

@@ -54,11 +54,7 @@ module _ {q m x : ℕ} (inverse : Reciprocal q m) (small : x < 2 ^ 48) where
   pub estimate-least : 2 ^ 16 ≤ q → x < (estimate m x + 3) * q
   estimate-least large = omega (arith, upper-least)
 
-module _ {q m x : ℕ} (inverse : Reciprocal q m) (near : x < 3 * q) (small : q < 2 ^ 23) where
-  -- x · q is below 2^48
-  product-small : x * q < 281474976710656
-  product-small = omega (arith, mul-le-mul-right q (le-of-lt near), mul-le-mul-left q (le-of-lt small))
-
+module _ (x : ℕ) {q m : ℕ} (inverse : Reciprocal q m) (product-small : x * q < 281474976710656) where
   -- x / q times 2^48 is at most x · (m + 1)
   quotient-most : x / q * 281474976710656 ≤ x * (m + 1)
   quotient-most =
@@ -72,12 +68,20 @@ module _ {q m x : ℕ} (inverse : Reciprocal q m) (near : x < 3 * q) (small : q 
   quotient-least =
       let k = x / q in
       let by-reciprocal : x * (m * q) ≤ x * 281474976710656 = mul-le-mul-left x (inverse .most) in
-      let by-quotient : x < k * q + q = lt-div-mul-add {a = x} {b = q} (omega arith) in
-      lt-of-mul-lt-mul-right q (omega (arith, product-small))
+      let by-quotient : x < k * q + q = lt-div-mul-add {a = x} {b = q} (omega (arith, inverse .least)) in
+      lt-of-mul-lt-mul-right q (omega arith)
 
   -- so the reciprocal rounded up gives the exact quotient
-  pub small-quotient : x * (m + 1) / 281474976710656 ≡ x / q
-  small-quotient = div-eq-of-lt-le 281474976710656 quotient-most quotient-least
+  exact-quotient : x * (m + 1) / 281474976710656 ≡ x / q
+  exact-quotient = div-eq-of-lt-le 281474976710656 quotient-most quotient-least
+
+-- of an x below 3 · q
+pub small-quotient : {q m x : ℕ} → Reciprocal q m → x < 3 * q → q < 2 ^ 23 → x * (m + 1) / 281474976710656 ≡ x / q
+small-quotient {q} {x = x} inverse near small = exact-quotient x inverse (omega (arith, mul-le-mul-right q (le-of-lt near), mul-le-mul-left q (le-of-lt small)))
+
+-- and of an x below 2^24
+pub short-quotient : {q m x : ℕ} → Reciprocal q m → x < 2 ^ 24 → q < 2 ^ 23 → x * (m + 1) / 281474976710656 ≡ x / q
+short-quotient {q} {x = x} inverse short small = exact-quotient x inverse (omega (arith, mul-le-mul-right q (le-of-lt short)))
 
 -- a multiple of q subtracted
 pub less-multiple : (q x k : ℕ) → k * q ≤ x → (x - k * q) % q ≡ x % q

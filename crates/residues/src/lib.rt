@@ -112,6 +112,34 @@ fn reduce_product(x: u64, q: u32) -> u32
     }
 }
 
+// The reciprocal of q, rounded up: worked out once for many numbers that `reduce_scaled` takes.
+pub fn scale(q: u32) -> u64
+    requires { ⌜ 0 < q ⌝ }
+    ensures { λ r. ⌜ r ≡ 2 ^ 48 / q + 1 ⌝ }
+{
+    reciprocal(q) + 1
+}
+
+// The remainder of a number below 2^24, whose quotient by the scale is exact.
+fn scaled_remainder(x: u32, q: u32, scale: u64) -> u32
+    requires { ⌜ (x < 2 ^ 24) × (2 ^ 16 ≤ q) × (q < 2 ^ 23) × (scale ≡ 2 ^ 48 / q + 1) ⌝ }
+    ensures { λ r. ⌜ r ≡ x % q ⌝ }
+{
+    x - ((x as u64) * scale / 281474976710656) as u32 * q
+}
+
+// The same as `reduce` for a number below 2^24, with the scale of q.
+pub fn reduce_scaled(x: u32, q: u32, scale: u64) -> u32
+    requires { ⌜ (x < 2 ^ 24) × (0 < q) × (scale ≡ 2 ^ 48 / q + 1) ⌝ }
+    ensures { λ r. ⌜ r ≡ x % q ⌝ }
+{
+    if 65536 <= q && q < 8388608 {
+        scaled_remainder(x, q, scale)
+    } else {
+        divided_remainder(x as u64, q)
+    }
+}
+
 // The whole product of two numbers of 32 bits, for sums that are reduced once.
 pub fn product(a: u32, b: u32) -> u64
     ensures { λ r. ⌜ r ≡ a * b ⌝ }
