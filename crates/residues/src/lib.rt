@@ -171,6 +171,14 @@ pub fn of_signed(z: i32, q: u32) -> u32
     reduce_product(raised(z) as u64 + (q as u64 - 1) * 16777216, q)
 }
 
+// The same for a number of less size than q, in fewer steps: that of z + q, which is below 2 · q and never negative.
+pub fn of_small(z: i32, q: u32) -> u32
+    requires { ⌜ (natAbs z < q) × (q < 2 ^ 24) ⌝ }
+    ensures { λ r. ⌜ r ≡ residue q z ⌝ }
+{
+    reduce_once(raised(z) - (16777216 - q), q)
+}
+
 // 003's Round for an even h: 1 from h / 2 to 3h / 2, else 0.
 pub fn threshold_bit(h: u32, w: u32) -> u32
     requires { ⌜ (h < 2 ^ 24) × (w < 2 ^ 24) ⌝ }

@@ -1,21 +1,22 @@
 -- Laws of the errors and multipliers drawn from a seed: their count, places and sizes, and the invariant of the loop that writes their residues.
 -- Assumes nothing.
 use mathlib.Core.Path.{_≡_, sym, ap, _∙_}
+use mathlib.Core.Bool.{Bool, true, false, cond}
 use mathlib.Core.List.{List, map}
-use Prim.Native.Nat.{ℕ, suc, _+_, _*_, _/_, _%_, _^_, _≤_, _<_}
+use Prim.Native.Nat.{ℕ, suc, _+_, _-_, _*_, _/_, _%_, _^_, _≤_, _<_}
 use native.Mathlib.Nat.{zero-add, mod-lt, mul-le-mul-right, div-lt-iff-lt-mul}
 use native.Mathlib.Omega.{arith}
 use lib.IntN.{ℤ, pos, natAbs}
 use lib.ListN.{length, getD, set, length-map, List·getD-map}
-use lib.Pow.{pow-pos}
+use lib.Dec.{ltb}
+use lib.Pow.{pow-pos, pow-mono}
 use Rattle.maths.specs.Integer.{residue}
 use Rattle.calls.proofs.Filled.{Filled, filled-none, filled-more}
 use Rattle.sets.specs.declared.Parameters.{Parameters}
-use Rattle.sets.specs.Rules.{Rules}
+use Rattle.sets.specs.Rules.{Rules, ByteRules}
 use Rattle.sets.specs.Derived.{multiplierCount, multiplierDrawBytes, errorDrawBytes, errorCount, multiplierBits}
 use Rattle.draws.specs.Small.{errorAt, multiplierAt}
-use Rattle.draws.proofs.Bits.{error-most, multiplier-size, power-most}
-use Rattle.sets.proofs.Counts.{bits-most}
+use Rattle.draws.proofs.Bits.{error-most, multiplier-size}
 use Rattle.draws.proofs.Positions.{turn-length, turn-at}
 use Rattle.byte_source.specs.Source.{State, initial, output}
 use Rattle.samplers.specs.Seeded.{errorByte, errorsOf, errorsDrawn, multipliersOf, multipliersDrawn}
@@ -68,10 +69,23 @@ module _ (p : Parameters) where
   unfolding multiplierAt
   multiplier-most bytes position = rw multiplier-size (size-most (multiplierBits p position) _)
 
-  -- so it is at most 512
-  pub multiplier-512 : Rules p → (bytes : List ℕ) (position : ℕ) → natAbs (multiplierAt p bytes position) ≤ 512
-  multiplier-512 rules bytes position =
-      omega (arith, multiplier-most bytes position, power-most (multiplierBits p position) (bits-most p rules position))
+  -- of at most b2 bits
+  bits-below : Rules p → (position : ℕ) → multiplierBits p position ≤ p .b2
+  unfolding multiplierBits
+  bits-below rules position = go (ltb position (p .ndec1))
+    where
+      go : (first : Bool) → cond first (p .b1) (p .b2) ≤ p .b2
+      go true = rules .bounds
+      go false = omega arith
+
+  -- so it is below q
+  pub multiplier-below : Rules p → (bytes : List ℕ) (position : ℕ) → natAbs (multiplierAt p bytes position) < p .q
+  multiplier-below rules bytes position =
+      omega (arith, multiplier-most bytes position, pow-mono {i = multiplierBits p position} {j = p .b2} (bits-below rules position), rules .small-b2)
+
+  -- an error is, too
+  pub modulus-most : Rules p → ByteRules p → 4 < p .q
+  modulus-most rules bytes = omega (arith, pow-mono {i = 7} {j = p .width - 1} (omega (arith, bytes .kept-byte)), rules .width-least)
 
   module _ (state : State) where
     -- how many errors a key has

@@ -34,7 +34,7 @@ fn error_residue(p: Parameters, bytes: &[u8], place: usize) -> u32
     ensures { λ r. ⌜ r ≡ residue (p .q) (errorAt (now (bytes .entry)) (errorByte p place)) ⌝ }
 {
     let at = error_byte(p, place);
-    residues::of_signed(draws::small::error_of(bytes[at]), p.q)
+    residues::of_small(draws::small::error_of(bytes[at]), p.q)
 }
 
 // All errors of one key.
@@ -80,7 +80,7 @@ fn multiplier_residue(p: Parameters, bytes: &[u8], position: usize) -> u32
     requires { ⌜ Rules p × ByteRules p × (length (now bytes) ≡ multiplierDrawBytes p) × (position < multiplierCount p) ⌝ }
     ensures { λ r. ⌜ r ≡ residue (p .q) (multiplierAt p (now (bytes .entry)) position) ⌝ }
 {
-    residues::of_signed(draws::small::multiplier_at(p, bytes, position), p.q)
+    residues::of_small(draws::small::multiplier_at(p, bytes, position), p.q)
 }
 
 // All multipliers of one sealing.
