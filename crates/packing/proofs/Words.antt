@@ -3,11 +3,11 @@
 use mathlib.Core.Path.{_≡_, refl, sym, ap, _∙_}
 use mathlib.Core.List.{List}
 use Prim.Native.Nat.{ℕ, _+_, _-_, _*_, _/_, _%_, _^_, _≤_, _<_}
-use native.Mathlib.Nat.{mul-zero, mul-add, mul-assoc, mul-comm, pow-zero, div-one, one-mul, zero-add, div-div-eq-div-mul, add-mul-div-left, div-lt-iff-lt-mul, mul-le-mul-left, mul-le-mul-right}
+use native.Mathlib.Nat.{mul-zero, mul-add, mul-assoc, mul-comm, div-one, one-mul, div-div-eq-div-mul, add-mul-div-left, div-lt-iff-lt-mul, mul-le-mul-left, mul-le-mul-right}
 use native.Mathlib.Omega.{arith}
 use lib.ListN.{length, drop, take, set}
 use lib.Pow.{pow-add, pow-pos}
-use Rattle.maths.specs.Vector.{at, tabulate}
+use Rattle.maths.specs.Vector.{at}
 use Rattle.maths.proofs.Vector.{tabulate-at}
 use Rattle.calls.specs.Region.{over}
 use lib.Seq.{length-take-le}

@@ -3,8 +3,8 @@
 use mathlib.Core.Path.{_≡_, sym, ap, _∙_}
 use mathlib.Core.Bool.{Bool, true, false, cond}
 use mathlib.Core.List.{List, map}
-use Prim.Native.Nat.{ℕ, suc, _+_, _-_, _*_, _/_, _%_, _^_, _≤_, _<_}
-use native.Mathlib.Nat.{zero-add, mod-lt, mul-le-mul-right, div-lt-iff-lt-mul}
+use Prim.Native.Nat.{ℕ, _+_, _-_, _%_, _^_, _≤_, _<_}
+use native.Mathlib.Nat.{zero-add, mod-lt}
 use native.Mathlib.Omega.{arith}
 use lib.IntN.{ℤ, pos, natAbs}
 use lib.ListN.{length, getD, set, length-map, List·getD-map}
@@ -21,24 +21,12 @@ use Rattle.draws.proofs.Positions.{turn-length, turn-at}
 use Rattle.byte_source.specs.Source.{State, initial, output}
 use Rattle.samplers.specs.Seeded.{errorByte, errorsOf, errorsDrawn, multipliersOf, multipliersDrawn}
 
--- a place in rows of some numbers lies in a row of one byte more
-row-below : (place row rows : ℕ) → 0 < row → place < rows * row → place / row * (row + 1) + place % row < rows * (row + 1)
-row-below place row rows some h =
-    let i : suc (place / row) ≤ rows = div-lt-iff-lt-mul some .1 h in
-    let whole : suc (place / row) * (row + 1) ≤ rows * (row + 1) = mul-le-mul-right (row + 1) i in
-    omega (arith, mod-lt place some)
-
 -- a number of some bits and 1 more
 size-most : (bits number : ℕ) → number % 2 ^ bits + 1 ≤ 2 ^ bits
 size-most bits number = omega (arith, mod-lt number (pow-pos bits))
 
 module _ (p : Parameters) where
   module _ (place : ℕ) (h : place < errorCount p) where
-    -- the byte of an error is one of those drawn
-    pub error-byte-below : Rules p → errorByte p place < errorDrawBytes p
-    unfolding errorCount errorByte errorDrawBytes
-    error-byte-below rules = row-below place (p .d + p .k) (p .t) (omega (arith, rules .some-d)) h
-
     -- each error of the bytes
     pub errors-at : (bytes : List ℕ) → getD (errorsOf p bytes) place (pos 0) ≡ errorAt bytes (errorByte p place)
     unfolding errorsOf

@@ -9,7 +9,7 @@ ghost use Rattle.sets.specs.Rules.{Rules, ByteRules};
 ghost use Rattle.sets.specs.Derived.{multiplierCount, multiplierDrawBytes, errorDrawBytes, errorCount};
 ghost use Rattle.draws.specs.Small.{errorAt, multiplierAt};
 ghost use Rattle.byte_source.specs.Source.{stateAt};
-ghost use Rattle.samplers.specs.Seeded.{errorByte, errorsOf, errorsDrawn, multipliersOf, multipliersDrawn};
+ghost use Rattle.samplers.specs.Seeded.{errorsOf, errorsDrawn, multipliersOf, multipliersDrawn};
 
 // The bytes that all errors of one key are drawn from.
 pub fn error_draw_bytes(p: Parameters) -> usize
@@ -19,33 +19,29 @@ pub fn error_draw_bytes(p: Parameters) -> usize
     p.t * (p.d + p.k + 1)
 }
 
-// The byte that the error at a place takes.
-fn error_byte(p: Parameters, place: usize) -> usize
-    requires { ⌜ Rules p × ByteRules p × (place < errorCount p) ⌝ }
-    ensures { λ r. ⌜ (r ≡ errorByte p place) × (r < errorDrawBytes p) ⌝ }
+// The error that a byte gives, as a residue.
+fn error_residue(bytes: &[u8], at: usize, q: u32) -> u32
+    requires { ⌜ (4 < q) × (q < 2 ^ 24) × (at < length (now bytes)) ⌝ }
+    ensures { λ r. ⌜ r ≡ residue q (errorAt (now (bytes .entry)) at) ⌝ }
 {
-    let row = p.d + p.k;
-    place / row * (row + 1) + place % row
+    residues::of_small(draws::small::error_of(bytes[at]), q)
 }
 
-// The error at a place.
-fn error_residue(p: Parameters, bytes: &[u8], place: usize) -> u32
-    requires { ⌜ Rules p × ByteRules p × (length (now bytes) ≡ errorDrawBytes p) × (place < errorCount p) ⌝ }
-    ensures { λ r. ⌜ r ≡ residue (p .q) (errorAt (now (bytes .entry)) (errorByte p place)) ⌝ }
-{
-    let at = error_byte(p, place);
-    residues::of_small(draws::small::error_of(bytes[at]), p.q)
-}
-
-// All errors of one key.
+// All errors of one key, row after row: the byte after those of a row is not used, so that error i of row r takes byte i + r.
 fn fill_errors(p: Parameters, bytes: &[u8], out: &mut [u32])
     requires { ⌜ Rules p × ByteRules p × (length (now bytes) ≡ errorDrawBytes p) × (length (now out) ≡ errorCount p) ⌝ }
     ensures { λ _. ⌜ now (out .exit) ≡ map (residue (p .q)) (errorsOf p (now (bytes .entry))) ⌝ }
 {
+    let row = p.d + p.k;
     let mut i: usize = 0;
-    while i < out.len() {
-        out[i] = error_residue(p, bytes, i);
-        i += 1;
+    let mut r: usize = 0;
+    while r < p.t {
+        let end = i + row;
+        while i < end {
+            out[i] = error_residue(bytes, i + r, p.q);
+            i += 1;
+        }
+        r += 1;
     }
 }
 

@@ -1,6 +1,6 @@
 -- `packing::bit_of` meets its contract: a remainder by at most 24 is small.
 -- Assumes nothing.
-use Prim.Native.Nat.{_*_, _%_, _<_}
+use Prim.Native.Nat.{_*_, _%_}
 use native.Mathlib.Nat.{mod-lt}
 use native.Mathlib.Omega.{arith}
 use borrow.Author.Needs.{needs}

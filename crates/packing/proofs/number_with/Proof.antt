@@ -1,6 +1,5 @@
 -- `packing::number_with` meets its contract: the numbers of whole groups are no more than the bytes, and a group has eight.
 -- Assumes nothing.
-use Prim.Native.Nat.{_*_, _/_, _%_, _<_}
 use native.Mathlib.Nat.{mod-lt}
 use native.Mathlib.Omega.{arith}
 use borrow.Author.Needs.{needs}

@@ -1,6 +1,5 @@
 -- `packing::pack_words` (003, algorithm 19) meets its contract: bits of i numbers are taken, of which j bytes are written and less than four are held.
 -- Assumes nothing.
-use mathlib.Core.Path.{_∙_}
 use Prim.Native.Nat.{_+_, _-_, _*_, _<_}
 use native.Mathlib.Omega.{arith}
 use borrow.Author.Needs.{needs}

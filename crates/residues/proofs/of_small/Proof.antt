@@ -1,9 +1,8 @@
 -- `residues::of_small` meets its contract: z + 2^24 less 2^24 − q is z + q, of which q is subtracted once or not at all.
 -- Assumes nothing.
 use mathlib.Core.Path.{_≡_, ap, _∙_}
-use Prim.Native.Nat.{ℕ, _-_, _%_, _^_, _<_}
+use Prim.Native.Nat.{ℕ, _-_, _%_}
 use native.Mathlib.Omega.{arith}
-use lib.IntN.{natAbs}
 use mir.Syntax.{w32}
 use mir.ValLaws.{toZ-ofZ}
 use borrow.Author.Needs.{needs}

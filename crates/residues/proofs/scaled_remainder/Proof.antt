@@ -4,7 +4,6 @@ use mathlib.Core.Path.{_≡_, sym, ap, _∙_}
 use Prim.Native.Nat.{ℕ, _+_, _*_, _/_, _^_, _≤_}
 use native.Mathlib.Nat.{div-le-self, div-mul-le-self, mod-eq-sub-div-mul, mul-le-mul-left}
 use native.Mathlib.Omega.{arith}
-use borrow.Author.Needs.{needs}
 use Rattle.residues.proofs.Barrett.{reciprocal, reciprocal-most, short-quotient}
 use Rattle.residues.proofs.scaled_remainder.Statement.{statement}
 use Rattle.residues.proofs.scaled_remainder.Tie as tie
