@@ -16,7 +16,7 @@ use Rattle.calls.proofs.Filled.{Filled, filled-more}
 use Rattle.packing.specs.Digits.{value, digits, pack, Digit}
 use Rattle.packing.specs.Dropped.{highParts, packDropping, Widths}
 use Rattle.packing.proofs.Digits.{value-at, window-digit}
-use Rattle.packing.proofs.Dropped.{high-at, high-digit, packDropping-length}
+use Rattle.packing.proofs.Dropped.{high-at, high-digit}
 
 -- i numbers are taken, j bytes are written, and the bits between are held
 pub record Held (kept : ℕ) (xs : List ℕ) (i bits j held : ℕ) : Type 0 where
@@ -89,23 +89,24 @@ module _ (width cmp : ℕ) (xs : List ℕ) where
       let three = held-step count 2 h (omega arith) (omega arith) refl refl two in
       rw e (held-step count 3 h (omega arith) (omega arith) refl refl three)
 
-  -- what is written by words is the beginning of what is written in all, and keeps the length
-  module _ (old : List ℕ) {new : List ℕ} {i : ℕ} (within : i ≤ length old) (e : new ≡ over old 0 (take i (packDropping width cmp (length old) xs))) where
-    part-length : length (take i (packDropping width cmp (length old) xs)) ≡ i
-    part-length = length-take-le i _ (rw packDropping-length within)
+-- what is written first is the beginning of what is written in all, and keeps the length: f gives a list of each length
+module _ (f : ℕ → List ℕ) (long : (n : ℕ) → length (f n) ≡ n) (old : List ℕ) {new : List ℕ} {i : ℕ} (within : i ≤ length old)
+    (e : new ≡ over old 0 (take i (f (length old)))) where
+  part-length : length (take i (f (length old))) ≡ i
+  part-length = length-take-le i _ (rw long within)
 
-    pub words-length : length new ≡ length old
-    words-length = ap length e ∙ over-length old 0 _ (omega (arith, part-length))
+  pub begun-length : length new ≡ length old
+  begun-length = ap length e ∙ over-length old 0 _ (omega (arith, part-length))
 
-    pub words-filled : Filled new 0 (length new) (packDropping width cmp (length new) xs) i new
-    words-filled =
-        record {
-          entries = packDropping-length width cmp (length new) xs;
-          room = omega arith;
-          within = omega (arith, words-length);
-          kept-length = refl;
-          written = rw (words-length, e) (sym (over-over old 0 _ (omega (arith, part-length)) _ refl));
-        }
+  pub begun-filled : Filled new 0 (length new) (f (length new)) i new
+  begun-filled =
+      record {
+        entries = long (length new);
+        room = omega arith;
+        within = omega (arith, begun-length);
+        kept-length = refl;
+        written = rw (begun-length, e) (sym (over-over old 0 _ (omega (arith, part-length)) _ refl));
+      }
 
 -- numbers of 8 bits or more: no more are taken than there are bytes, written or held
 pub numbers-taken : {kept i bits j held : ℕ} {xs : List ℕ} → Held kept xs i bits j held → 8 ≤ kept → 8 * i ≤ 8 * j + bits

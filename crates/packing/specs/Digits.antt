@@ -25,6 +25,10 @@ unpack width count bytes = digits width count (value 8 bytes)
 abbrev pub fourBytes : List ℕ → ℕ → ℕ
 fourBytes bytes j = at bytes j + 2 ^ 8 * at bytes (j + 1) + 2 ^ 16 * at bytes (j + 2) + 2 ^ 24 * at bytes (j + 3)
 
+-- the eight numbers of kept bits each that begin with byte j, with zeros for cmp low bits more
+unfoldable pub group : ℕ → ℕ → ℕ → List ℕ → List ℕ
+group kept cmp j bytes = tabulate 8 (λ k. fourBytes bytes (j + k * kept / 8) / 2 ^ (k * kept % 8) % 2 ^ kept * 2 ^ cmp)
+
 -- every number is a digit of some bits
 abbrev pub Digit : ℕ → List ℕ → Type 0
 Digit bits xs = (k : ℕ) → at xs k < 2 ^ bits

@@ -4,7 +4,7 @@ ghost use Prim.Native.Nat.{_+_, _*_, _/_, _%_, _^_, _<_, _≤_};
 ghost use lib.ListN.{length, drop, take, set};
 ghost use Rattle.maths.specs.Vector.{at};
 ghost use Rattle.calls.specs.Region.{over};
-ghost use Rattle.packing.specs.Digits.{Digit, value, pack, unpack, fourBytes};
+ghost use Rattle.packing.specs.Digits.{Digit, value, pack, unpack, fourBytes, group};
 ghost use Rattle.packing.specs.Dropped.{Widths, packDropping, unpackDropped};
 ghost use Rattle.packing.specs.Message.{messageBits, messageBytes};
 
@@ -170,13 +170,62 @@ fn window_at(bytes: &[u8], j: usize) -> u32
     }
 }
 
-// The number whose `kept` high bits begin at a bit of byte j, with zeros for its low `cmp`.
+// The number whose `kept` high bits begin at a bit of a word, with zeros for its low `cmp`.
+fn number_in(word: u32, bit: u32, kept: u32, cmp: u32) -> u32
+    requires { ⌜ (bit < 8) × (kept + cmp ≤ 24) ⌝ }
+    ensures { λ r. ⌜ r ≡ word / 2 ^ bit % 2 ^ kept * 2 ^ cmp ⌝ }
+{
+    let ones: u32 = (1 << kept) - 1;
+    ((word >> bit) & ones) << cmp
+}
+
+// The same at a bit of byte j.
 fn number_of(bytes: &[u8], j: usize, bit: u32, kept: u32, cmp: u32) -> u32
     requires { ⌜ (j < 2 ^ 63) × (bit < 8) × (kept + cmp ≤ 24) ⌝ }
     ensures { λ r. ⌜ r ≡ fourBytes (now (bytes .entry)) j / 2 ^ bit % 2 ^ kept * 2 ^ cmp ⌝ }
 {
-    let ones: u32 = (1 << kept) - 1;
-    ((window_at(bytes, j) >> bit) & ones) << cmp
+    number_in(window_at(bytes, j), bit, kept, cmp)
+}
+
+// Number k of the eight that begin with byte j, far from the end.
+fn number_in_group(bytes: &[u8], j: usize, k: usize, kept: u32, cmp: u32) -> u32
+    requires { ⌜ (j + 32 ≤ length (now bytes)) × (k < 8) × (kept + cmp ≤ 24) ⌝ }
+    ensures { λ r. ⌜ r ≡ fourBytes (now (bytes .entry)) (j + k * kept / 8) / 2 ^ (k * kept % 8) % 2 ^ kept * 2 ^ cmp ⌝ }
+{
+    let bits = k * (kept as usize);
+    number_in(word_at(bytes, j + bits / 8), (bits % 8) as u32, kept, cmp)
+}
+
+// Unpacks the eight numbers that begin with byte j into the places from i on.
+fn unpack_group(bytes: &[u8], j: usize, kept: u32, cmp: u32, out: &mut [u32], i: usize)
+    requires { ⌜ (j + 32 ≤ length (now bytes)) × (kept + cmp ≤ 24) × (i + 8 ≤ length (now out)) ⌝ }
+    ensures { λ _. ⌜ now (out .exit) ≡ over (now (out .entry)) i (group kept cmp j (now (bytes .entry))) ⌝ }
+{
+    let mut k: usize = 0;
+    while k < 8 {
+        out[i + k] = number_in_group(bytes, j, k, kept, cmp);
+        k += 1;
+    }
+}
+
+// Unpacks as `unpack_dropped` does, eight numbers at a time, and gives how many numbers are written.
+fn unpack_groups(bytes: &[u8], width: u32, cmp: u32, out: &mut [u32]) -> usize
+    requires { ⌜ Widths width cmp ⌝ }
+    ensures { λ r. ⌜ (r % 8 ≡ 0) × (r ≤ length (now (out .entry)))
+        × (now (out .exit) ≡ over (now (out .entry)) 0 (take r (unpackDropped width cmp (length (now (out .entry))) (now (bytes .entry))))) ⌝ }
+{
+    let kept = width - cmp;
+    let mut j: usize = 0;
+    let mut i: usize = 0;
+    while i + 8 <= out.len() {
+        if bytes.len() < j + 32 {
+            return i;
+        }
+        unpack_group(bytes, j, kept, cmp, out, i);
+        j += kept as usize;
+        i += 8;
+    }
+    i
 }
 
 // Unpacks numbers of `width` bits each whose low `cmp` bits were dropped into all of `out`.
@@ -185,9 +234,9 @@ pub fn unpack_dropped(bytes: &[u8], width: u32, cmp: u32, out: &mut [u32])
     ensures { λ _. ⌜ now (out .exit) ≡ unpackDropped width cmp (length (now (out .entry))) (now (bytes .entry)) ⌝ }
 {
     let kept = width - cmp;
-    let mut j: usize = 0;
+    let mut i = unpack_groups(bytes, width, cmp, out);
+    let mut j = i / 8 * (kept as usize);
     let mut bit: u32 = 0;
-    let mut i: usize = 0;
     while i < out.len() {
         out[i] = number_of(bytes, j, bit, kept, cmp);
         bit += kept;

@@ -9,9 +9,9 @@ use borrow.Author.Needs.{needs}
 use lib.ListN.{length}
 use Rattle.calls.proofs.Filled.{Filled, filled-more, filled-whole}
 use Rattle.packing.specs.Dropped.{packDropping}
-use Rattle.packing.proofs.Dropped.{packDropping-at}
+use Rattle.packing.proofs.Dropped.{packDropping-at, packDropping-length}
 use Rattle.packing.proofs.Position.{Position, position-given, position-next, numbers-passed}
-use Rattle.packing.proofs.Words.{words-length, words-filled}
+use Rattle.packing.proofs.Words.{begun-length, begun-filled}
 use Rattle.packing.proofs.pack_dropping.Statement.{statement}
 use Rattle.packing.proofs.pack_dropping.Tie as tie
 
@@ -34,7 +34,7 @@ loop-holds c =
     let made = words c in
     let a = start made .args in (
       position-given (a .width - a .cmp) (made .pack-words .result) (omega arith) (c .before .number-with .ensures) (c .bit-of .ensures),
-      words-filled (a .width) (a .cmp) (a .numbers .now) (a .out .now) (made .pack-words .ensures .0) (made .pack-words .ensures .1),
+      begun-filled (λ n. packDropping (a .width) (a .cmp) n (a .numbers .now)) (λ n. packDropping-length _ _ n _) (a .out .now) (made .pack-words .ensures .0) (made .pack-words .ensures .1),
     )
 
 byte-of-requires : tie.Need-byte-of-requires Inv-loop μ-loop
@@ -63,7 +63,7 @@ returns c =
     let a = start made .args in
     filled-whole (c .before .loop .inv .1) refl (omega arith)
     ∙ ap (λ (n : ℕ). packDropping (a .width) (a .cmp) n (a .numbers .now))
-    (words-length (a .width) (a .cmp) (a .numbers .now) (a .out .now) (made .pack-words .ensures .0) (made .pack-words .ensures .1))
+    (begun-length (λ n. packDropping (a .width) (a .cmp) n (a .numbers .now)) (λ n. packDropping-length _ _ n _) (a .out .now) (made .pack-words .ensures .0) (made .pack-words .ensures .1))
 
 pub pack-dropping-spec : {M : Type 1} → statement M
 pack-dropping-spec =
