@@ -56,13 +56,13 @@ fn transforms(number: usize) {
     let s = set(number).unwrap();
     for i in 1..4 {
         let size = s.sizes[i - 1];
-        let (powers, inverse) = (proved::powers(number, i, size), proved::inverse_powers(number, i, size));
+        let (tables, inverse) = (proved::tables(number, i), proved::inverse_tables(number, i));
         let (forward, backward) = (Transform::new(&s, i - 1, false), Transform::new(&s, i - 1, true));
         let start = residues(s.q, size);
         let mut x = start.clone();
         let mut y = start.clone();
         let name = format!("set {number} transform of {size}");
-        compare(&name, 50, || proved::send(number, i, &powers, black_box(&mut x)), || y = forward.forward(black_box(&y)));
+        compare(&name, 50, || proved::send(number, i, &tables, black_box(&mut x)), || y = forward.forward(black_box(&y)));
         assert_eq!(x, y);
         let name = format!("set {number} inverse of {size}");
         compare(&name, 50, || proved::recover(number, i, &inverse, black_box(&mut x)), || y = backward.scaled(black_box(&y)));

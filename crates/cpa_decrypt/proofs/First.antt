@@ -1,7 +1,7 @@
 -- The correlations of c1' with the secret, as the transforms give them.
 -- Assumes nothing.
 use mathlib.Core.Path.{_≡_, ap, _∙_}
-use mathlib.Core.List.{List, _++_}
+use mathlib.Core.List.{List}
 use Prim.Native.Nat.{ℕ, _+_, _-_, _%_, _≤_, _<_}
 use native.Mathlib.Nat.{sub-zero, mod-lt}
 use native.Mathlib.Decide.{decLt}
@@ -16,7 +16,7 @@ use Rattle.maths.proofs.Vector.{tabulate-at, tabulate-cong}
 use Rattle.maths.proofs.Transform.{recover-length}
 use Rattle.calls.specs.Checks.{passing, below}
 use Rattle.calls.specs.Region.{over}
-use Rattle.calls.proofs.Region.{over-length, over-lent}
+use Rattle.calls.proofs.Region.{over-length}
 use Rattle.sets.specs.declared.Parameters.{Parameters}
 use Rattle.sets.specs.Table.{setOf, IsSet}
 use Rattle.sets.specs.Derived.{transformSize}
@@ -25,8 +25,8 @@ use Rattle.sets.proofs.Transforms.{third-size, second-size}
 use Rattle.packing.specs.Digits.{unpack}
 use Rattle.packing.proofs.Laws.{unpack-length}
 use Rattle.ntt_products.specs.Stored.{recoveredInverse, recovered, correlations}
-use Rattle.ntt_products.specs.Placed.{Placed, Correlated}
-use Rattle.ntt_products.proofs.Laws.{recoveredInverse-take, recovered-take, recovered-placed}
+use Rattle.ntt_products.specs.Placed.{Placed}
+use Rattle.ntt_products.proofs.Laws.{recoveredInverse-take, recovered-below}
 use Rattle.scheme.specs.Encryption.{firstBytes, cipherFirst}
 use Rattle.scheme.specs.Answers.{onlyResidues}
 use Rattle.cpa_decrypt.specs.Decrypted.{firstCorrelations}
@@ -69,64 +69,51 @@ pub front-below : (p : Parameters) (stored ct xs : List ℕ) → 0 < p .q → ta
 front-below p stored ct xs some e =
     record { each = λ j h. rw (← getD-take (p .d) xs j 0 h, e) (firstCorrelations-below p stored ct some .each j h) }
 
--- x is a buffer with the places of the third transform, to whose front ĉ1 was recovered
-module _ (set : ℕ) (low : IsSet set) (x ct : List ℕ) (size : length x ≡ transformSize (setOf set) 3) where
-  -- what ĉ1 stores
-  abbrev pub first : List ℕ
-  first = recovered (setOf set) 2 (transformSize (setOf set) 2) (cipherFirst (setOf set) ct)
+-- c1'
+abbrev pub first : ℕ → List ℕ → List ℕ
+first set ct = recovered (setOf set) 2 (setOf set .n + setOf set .k) (cipherFirst (setOf set) ct)
 
-  -- it has the places of the second transform
-  first-length : length first ≡ transformSize (setOf set) 2
-  first-length = recovered-placed set low 2 (cipherFirst (setOf set) ct) .size
+-- the second transform has room for it
+pub few : (set : ℕ) → IsSet set → setOf set .n + setOf set .k ≤ transformSize (setOf set) 2
+few set low = rw second-size (rules set low .holds2)
 
-  -- c1' has room in it
-  few : setOf set .n + setOf set .k ≤ transformSize (setOf set) 2
-  few = rw second-size (rules set low .holds2)
+-- x is a buffer with the places of the third transform, to whose front ys, which begin with c1', were recovered
+module _ (set : ℕ) (low : IsSet set) (x ct ys : List ℕ) (size : length x ≡ transformSize (setOf set) 3) (long : length ys ≡ transformSize (setOf set) 2)
+    (made : take (setOf set .n + setOf set .k) ys ≡ first set ct)
+  where
+    -- the buffer begins with c1'
+    buffer-front : take (setOf set .n + setOf set .k) (over x 0 ys) ≡ first set ct
+    buffer-front = front-first x ys (setOf set .n + setOf set .k) (rw long (few set low)) ∙ made
 
-  -- the buffer begins with c1'
-  buffer-front : take (setOf set .n + setOf set .k) (over x 0 first) ≡ recovered (setOf set) 2 (setOf set .n + setOf set .k) (cipherFirst (setOf set) ct)
-  buffer-front =
-      front-first x first (setOf set .n + setOf set .k) (rw first-length few)
-      ∙ recovered-take set 2 (setOf set .n + setOf set .k) (cipherFirst (setOf set) ct) few
+    -- so c1' may be sent
+    pub buffer-placed : Placed (setOf set) 3 (setOf set .n + setOf set .k) (over x 0 ys)
+    buffer-placed =
+        let room = second-room set low x size in
+        record {
+          size = over-length x 0 ys (omega (arith, room, second-size (setOf set))) ∙ size;
+          inside = omega (arith, few set low, room, second-size (setOf set), size);
+          residues =
+              record {
+                each = λ j h. rw (← getD-take (setOf set .n + setOf set .k) (over x 0 ys) j 0 h, buffer-front)
+                    (recovered-below set low 2 (setOf set .n + setOf set .k) (cipherFirst (setOf set) ct) (few set low) .each j h);
+              };
+        }
 
-  -- so c1' may be sent
-  pub buffer-placed : Placed (setOf set) 3 (setOf set .n + setOf set .k) (over x 0 first)
-  buffer-placed =
-      let room = second-room set low x size in
-      record {
-        size = over-length x 0 first (omega (arith, first-length, room, second-size (setOf set))) ∙ size;
-        inside = omega (arith, few, room, second-size (setOf set), size);
-        residues = record {
-          each =
-              λ j h. rw (
-                ← getD-take (setOf set .n + setOf set .k) (over x 0 first) j 0 h,
-                front-first x first (setOf set .n + setOf set .k) (rw first-length few),
-                getD-take (setOf set .n + setOf set .k) first j 0 h,
-              )
-              (recovered-placed set low 2 (cipherFirst (setOf set) ct) .residues .each j (omega (arith, few)));
-        };
-      }
-
-  -- the buffer as it comes back from the recovery of its first places
-  pub buffer-lent : (ys : List ℕ) (size2 : ℕ) → size2 ≡ transformSize (setOf set) 2 → ys ≡ first
-      → take 0 x ++ (ys ++ drop (size2 - 0) (drop 0 x)) ≡ over x 0 first
-  buffer-lent ys size2 e made =
-      let long : length ys ≡ transformSize (setOf set) 2 = rw made first-length in
-      over-lent x 0 ys size2 (omega arith) ∙ ap (over x 0) made
-
-  -- and its correlations with what is stored are those of the definition
-  pub first-correlated : (stored new : List ℕ) → Correlated (setOf set) 3 (setOf set .n + setOf set .k) (over x 0 first) stored new
-      → take (setOf set .d) new ≡ firstCorrelations (setOf set) stored ct
-  unfolding firstCorrelations correlations
-  first-correlated stored new correlated =
-      let kept = rules set low in
-      let n = setOf set .n + setOf set .k in
-      let m = setOf set .n + setOf set .d + setOf set .k - 1 in
-      let c1 = recovered (setOf set) 2 n (cipherFirst (setOf set) ct) in
-      let within : m ≤ transformSize (setOf set) 3 = rw third-size (kept .holds3) in
-      let c1-length : length c1 ≡ n = unfold recovered in recover-length _ _ _ _ _ n _ in
-      correlated .first (setOf set .d) (omega (arith, within, kept .some-n))
-      ∙ rw (buffer-front, c1-length)
-      (tabulate-cong (setOf set .d) _ _ (λ j h. ap (λ (y : ℕ). y % setOf set .q)
-      (correlation-front n m j (at c1) (recoveredInverse (setOf set) 3 (transformSize (setOf set) 3) stored) (omega (arith, kept .some-n))
-      ∙ ap (λ (ys : List ℕ). correlation n (at c1) (at ys) j) (recoveredInverse-take set 3 m stored within))))
+    -- and its correlations with what is stored are those of the definition
+    pub first-correlated : (stored new buffer : List ℕ) (count d : ℕ) → buffer ≡ over x 0 ys → count ≡ setOf set .n + setOf set .k → d ≡ setOf set .d
+        → take d new
+        ≡ correlations (setOf set .q) (take count buffer) (recoveredInverse (setOf set) 3 (transformSize (setOf set) 3) stored) d
+        → take (setOf set .d) new ≡ firstCorrelations (setOf set) stored ct
+    unfolding firstCorrelations correlations
+    first-correlated stored new buffer count d written counted places correlated =
+        let kept = rules set low in
+        let n = setOf set .n + setOf set .k in
+        let m = setOf set .n + setOf set .d + setOf set .k - 1 in
+        let c1 = first set ct in
+        let within : m ≤ transformSize (setOf set) 3 = rw third-size (kept .holds3) in
+        let c1-length : length c1 ≡ n = unfold recovered in recover-length _ _ _ _ _ n _ in
+        (rw (written, counted, places) at correlated)
+        ∙ rw (buffer-front, c1-length)
+        (tabulate-cong (setOf set .d) _ _ (λ j h. ap (λ (y : ℕ). y % setOf set .q)
+        (correlation-front n m j (at c1) (recoveredInverse (setOf set) 3 (transformSize (setOf set) 3) stored) (omega (arith, kept .some-n))
+        ∙ ap (λ (zs : List ℕ). correlation n (at c1) (at zs) j) (recoveredInverse-take set 3 m stored within))))

@@ -2,7 +2,7 @@
 -- Assumes nothing.
 use mathlib.Core.Path.{_≡_, sym, _∙_}
 use mathlib.Core.List.{List}
-use Prim.Native.Nat.{ℕ, _%_, _<_}
+use Prim.Native.Nat.{ℕ, _%_, _≤_, _<_}
 use native.Mathlib.Nat.{mod-lt}
 use native.Mathlib.Decide.{decLt}
 use native.Mathlib.Omega.{arith}
@@ -43,12 +43,12 @@ module _ (q : ℕ) (xs : List ℕ) where
       ]
 
 -- numbers of q or more count modulo q
-pub recovered-reduced : (set : ℕ) → IsSet set → (i : ℕ) (xs : List ℕ)
-    → recovered (setOf set) i (transformSize (setOf set) i) (reduced (setOf set .q) xs) ≡ recovered (setOf set) i (transformSize (setOf set) i) xs
+pub recovered-reduced : (set : ℕ) → IsSet set → (i m : ℕ) (xs : List ℕ) → m ≤ transformSize (setOf set) i
+    → recovered (setOf set) i m (reduced (setOf set .q) xs) ≡ recovered (setOf set) i m xs
 unfolding recovered
-recovered-reduced set low i xs =
-    recover-mod (setOf set .q) (setOf set .row) (rowCount (setOf set) i) (rootInverse (setOf set) i) (sizeInverse (setOf set) i) (transformSize (setOf set) i)
-    (reduced (setOf set .q) xs) xs
+recovered-reduced set low i m xs fits =
+    recover-mod (setOf set .q) (setOf set .row) (rowCount (setOf set) i) (rootInverse (setOf set) i) (sizeInverse (setOf set) i) m (reduced (setOf set .q) xs)
+    xs
     (omega (arith, size-rows set low i))
     (reduced-mod (setOf set .q) xs)
 

@@ -1,10 +1,15 @@
--- The widths of the numbers of a ciphertext, its bytes, and the room in the work slice.
+-- The widths of the numbers of a ciphertext, its bytes, and the room in the work slice and for the tables of the transforms.
 -- Assumes nothing.
-use Prim.Native.Nat.{_≤_}
+use mathlib.Core.Path.{_≡_}
+use Prim.Native.Nat.{ℕ, _+_, _/_, _≤_}
 use native.Mathlib.Omega.{arith}
 use Rattle.sets.specs.declared.Parameters.{Parameters}
 use Rattle.sets.specs.Derived.{cpaCiphertextBytes}
 use Rattle.sets.specs.Rules.{Rules, ByteRules}
+use Rattle.sets.specs.Table.{setOf, IsSet}
+use Rattle.sets.proofs.Rules.{rules, byteRules}
+use Rattle.sets.proofs.Transforms.{second-size, third-size}
+use Rattle.ntt_products.specs.Placed.{tableLength}
 use Rattle.packing.specs.Dropped.{Widths}
 use Rattle.scheme.specs.Encryption.{firstBytes}
 use Rattle.scheme.specs.Answers.{workLength}
@@ -27,3 +32,14 @@ module _ (p : Parameters) where
 
     pub second-widths : Widths (p .width) (p .cmp)
     second-widths = record { least = omega (arith, bytes .kept-byte); most = omega (arith, rules .width-most) }
+
+-- no more rows of 256 numbers for fewer numbers
+rows-rising : (C D ρ : ℕ) → ρ ≡ 256 → C ≤ D → C / ρ ≤ D / ρ
+rows-rising C D ρ e h = rw e (omega arith)
+
+module _ (set : ℕ) (some : 1 ≤ set) (low : IsSet set) where
+  -- the tables of the second transform have room in those of the third
+  pub tables-rising : tableLength (setOf set) 2 ≤ tableLength (setOf set) 3
+  tables-rising =
+      let rising = rules set low .rising2 in
+      rw (second-size (setOf set), third-size (setOf set)) (omega (arith, rows-rising _ _ _ (byteRules set some low .row-256) rising))

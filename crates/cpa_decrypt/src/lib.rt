@@ -3,7 +3,7 @@ use calls::Answer;
 use samplers::Advance;
 use sets::Parameters;
 ghost use mathlib.Core.Path.{_≡_};
-ghost use Prim.Native.Nat.{_≤_, _<_};
+ghost use Prim.Native.Nat.{_+_, _≤_, _<_};
 ghost use lib.ListN.{length, take};
 ghost use Rattle.calls.specs.Outcome.{outcome, leaves};
 ghost use Rattle.maths.specs.Vector.{AllBelow};
@@ -12,7 +12,7 @@ ghost use Rattle.sets.specs.Rules.{Rules, ByteRules};
 ghost use Rattle.sets.specs.Derived.{transformSize, cpaCiphertextBytes};
 ghost use Rattle.packing.specs.Digits.{unpack};
 ghost use Rattle.ntt_products.specs.Stored.{recovered};
-ghost use Rattle.ntt_products.specs.Placed.{Placed};
+ghost use Rattle.ntt_products.specs.Placed.{Placed, tableLength};
 ghost use Rattle.scheme.specs.Encryption.{firstBytes, cipherFirst, decryptedMessage};
 ghost use Rattle.scheme.specs.Answers.{workLength, onlyResidues, secretDraw};
 ghost use Rattle.cpa_decrypt.specs.Decrypted.{reduced, firstCorrelations, differenceBit, differenceBits, decryptedBitsFrom, decryptedMessageFrom};
@@ -29,17 +29,26 @@ fn reduce_all(xs: &mut [u32], q: u32)
     }
 }
 
-// Recovers what the packed ĉ1 stores; numbers of q or more count modulo q.
-fn recover_first(set: usize, packed: &[u8], powers: &mut [u32], x: &mut [u32])
-    requires { ⌜ (1 ≤ set) × IsSet set × (length (now powers) ≡ transformSize (setOf set) 2) × (length (now x) ≡ transformSize (setOf set) 2) ⌝ }
-    ensures { λ _. ⌜ now (x .exit)
-        ≡ recovered (setOf set) 2 (transformSize (setOf set) 2) (unpack (setOf set .width) (transformSize (setOf set) 2) (now (packed .entry))) ⌝ }
+// How many numbers c1' has.
+fn first_count(set: usize) -> usize
+    requires { ⌜ IsSet set ⌝ }
+    ensures { λ r. ⌜ r ≡ setOf set .n + setOf set .k ⌝ }
+{
+    let p = sets::parameters_of(set);
+    p.n + p.k
+}
+
+// Recovers c1', the first numbers of what the packed ĉ1 stores; numbers of q or more count modulo q.
+fn recover_first(set: usize, packed: &[u8], tables: &mut [u32], x: &mut [u32])
+    requires { ⌜ (1 ≤ set) × IsSet set × (length (now tables) ≡ tableLength (setOf set) 2) × (length (now x) ≡ transformSize (setOf set) 2) ⌝ }
+    ensures { λ _. ⌜ take (setOf set .n + setOf set .k) (now (x .exit))
+        ≡ recovered (setOf set) 2 (setOf set .n + setOf set .k) (unpack (setOf set .width) (transformSize (setOf set) 2) (now (packed .entry))) ⌝ }
 {
     let p = sets::parameters_of(set);
     packing::unpack_into(packed, p.width, x);
     reduce_all(x, p.q);
-    ntt_products::load_inverse_powers(set, 2, powers);
-    ntt_products::recover_all(set, 2, powers, x);
+    ntt_products::load_inverse_tables(set, 2, tables);
+    ntt_products::recover_first(set, 2, tables, x, first_count(set));
 }
 
 // How many bytes the packed ĉ1 takes.
@@ -51,24 +60,25 @@ fn first_bytes(set: usize) -> usize
     sets::derived::packed_bytes(p.d2, p.width as usize)
 }
 
-// Fills the first d places of `x` with the correlations of c1' with the secret that `stored` stores; `powers` is lent for the tables.
-fn correlate_first(set: usize, ciphertext: &[u8], stored: &[u32], powers: &mut [u32], x: &mut [u32])
+// Fills the first d places of `x` with the correlations of c1' with the secret that `stored` stores; `tables` is lent for the tables of both transforms.
+fn correlate_first(set: usize, ciphertext: &[u8], stored: &[u32], tables: &mut [u32], x: &mut [u32])
     requires { ⌜ (1 ≤ set) × IsSet set × (length (now ciphertext) ≡ cpaCiphertextBytes (setOf set))
-        × Placed (setOf set) 3 (transformSize (setOf set) 3) (now stored) × (length (now powers) ≡ transformSize (setOf set) 3)
+        × Placed (setOf set) 3 (transformSize (setOf set) 3) (now stored) × (length (now tables) ≡ tableLength (setOf set) 3)
         × (length (now x) ≡ transformSize (setOf set) 3) ⌝ }
     ensures { λ _. ⌜ take (setOf set .d) (now (x .exit)) ≡ firstCorrelations (setOf set) (now (stored .entry)) (now (ciphertext .entry)) ⌝ }
 {
     let p = sets::parameters_of(set);
     let end = first_bytes(set);
     let size = p.d2;
+    let room = ntt_products::table_length(set, 2);
     recover_first(
         set,
         &ciphertext[0..end],
-        &mut powers[0..size],
+        &mut tables[0..room],
         &mut x[0..size],
     );
-    roots::load_powers(set, 3, powers);
-    ntt_products::correlate(set, 3, powers, x, p.n + p.k, stored);
+    ntt_products::load_tables(set, 3, tables);
+    ntt_products::correlate(set, 3, tables, x, first_count(set), stored, p.d);
 }
 
 // The bit that a number of c2 is read as, given the correlation at its place.
@@ -94,24 +104,24 @@ fn read_differences(set: usize, second: &mut [u32], correlations: &[u32])
     }
 }
 
-// Reads the bits of a ciphertext with the stored secret; `powers` and `x` are lent for the transforms.
+// Reads the bits of a ciphertext with the stored secret; `tables` and `x` are lent for the transforms.
 fn read_bits(
     set: usize,
     ciphertext: &[u8],
     stored: &[u32],
-    powers: &mut [u32],
+    tables: &mut [u32],
     x: &mut [u32],
     bits: &mut [u32],
 )
     requires { ⌜ (1 ≤ set) × IsSet set × (length (now ciphertext) ≡ cpaCiphertextBytes (setOf set))
-        × Placed (setOf set) 3 (transformSize (setOf set) 3) (now stored) × (length (now powers) ≡ transformSize (setOf set) 3)
+        × Placed (setOf set) 3 (transformSize (setOf set) 3) (now stored) × (length (now tables) ≡ tableLength (setOf set) 3)
         × (length (now x) ≡ transformSize (setOf set) 3) × (length (now bits) ≡ setOf set .d) ⌝ }
     ensures { λ _. ⌜ now (bits .exit) ≡ decryptedBitsFrom (setOf set) (now (stored .entry)) (now (ciphertext .entry)) ⌝ }
 {
     let p = sets::parameters_of(set);
     let from = first_bytes(set);
     packing::unpack_dropped(&ciphertext[from..], p.width, p.cmp, bits);
-    correlate_first(set, ciphertext, stored, powers, x);
+    correlate_first(set, ciphertext, stored, tables, x);
     read_differences(set, bits, x);
 }
 
@@ -120,17 +130,17 @@ fn read_with_buffers(
     set: usize,
     ciphertext: &[u8],
     stored: &[u32],
-    powers: &mut [u32],
+    tables: &mut [u32],
     x: &mut [u32],
     bits: &mut [u32],
     message: &mut [u8],
 )
     requires { ⌜ (1 ≤ set) × IsSet set × (length (now ciphertext) ≡ cpaCiphertextBytes (setOf set))
-        × Placed (setOf set) 3 (transformSize (setOf set) 3) (now stored) × (length (now powers) ≡ transformSize (setOf set) 3)
+        × Placed (setOf set) 3 (transformSize (setOf set) 3) (now stored) × (length (now tables) ≡ tableLength (setOf set) 3)
         × (length (now x) ≡ transformSize (setOf set) 3) × (length (now bits) ≡ setOf set .d) × (length (now message) ≡ 32) ⌝ }
     ensures { λ _. ⌜ now (message .exit) ≡ decryptedMessageFrom (setOf set) (now (stored .entry)) (now (ciphertext .entry)) ⌝ }
 {
-    read_bits(set, ciphertext, stored, powers, x, bits);
+    read_bits(set, ciphertext, stored, tables, x, bits);
     packing::bytes_of_bits(bits, message);
 }
 
@@ -140,15 +150,16 @@ fn read(set: usize, ciphertext: &[u8], stored: &[u32], message: &mut [u8])
         × Placed (setOf set) 3 (transformSize (setOf set) 3) (now stored) × (length (now message) ≡ 32) ⌝ }
     ensures { λ _. ⌜ now (message .exit) ≡ decryptedMessageFrom (setOf set) (now (stored .entry)) (now (ciphertext .entry)) ⌝ }
 {
-    let mut powers = [0u32; 3328];
+    let mut tables = [0u32; 3605];
     let mut x = [0u32; 3328];
     let mut bits = [0u32; 256];
+    let room = ntt_products::table_length(set, 3);
     let size = stored.len();
     read_with_buffers(
         set,
         ciphertext,
         stored,
-        &mut powers[0..size],
+        &mut tables[0..room],
         &mut x[0..size],
         &mut bits[0..256],
         message,

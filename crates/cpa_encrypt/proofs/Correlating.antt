@@ -24,7 +24,7 @@ use Rattle.packing.specs.Digits.{Digit}
 use Rattle.packing.specs.Dropped.{packDropping}
 use Rattle.packing.specs.Message.{messageBits}
 use Rattle.ntt_products.specs.Stored.{sent, recoveredInverse, accumulated, totals, summedCorrelations}
-use Rattle.ntt_products.proofs.Laws.{accumulated-length, Stored, sent-placed, recoveredInverse-placed, addends, totals-none, totals-more, totals-placed}
+use Rattle.ntt_products.proofs.Laws.{accumulated-length, Stored, sent-placed, recoveredInverse-below, addends, totals-none, totals-more, totals-placed}
 use Rattle.ntt_products.proofs.Laws.{totals-recoveredInverse, recoveredInverse-take}
 use Rattle.scheme.specs.Encryption.{secondNumbers, secondBytes}
 use Rattle.cpa_encrypt.specs.Parts.{Multipliers, KeyResidues, messageAdded, secondSums, packedSecond}
@@ -79,20 +79,10 @@ module _ (set : ℕ) (low : IsSet set) where
         let same : p .d ≡ setOf set .d = ap (λ (r : Parameters). r .d) e in
         front-length xs (p .d) (omega (arith, message-fits)) ∙ same
 
-    -- the numbers recovered fill the first transform
-    pub recoveredInverse-size : (total ys : List ℕ) → total ≡ recoveredInverse (setOf set) 1 (transformSize (setOf set) 1) ys
-        → length total ≡ transformSize (setOf set) 1
-    recoveredInverse-size total ys made = rw made (recoveredInverse-placed set low 1 ys .size)
-
-    -- and the first d of them are residues
-    pub recoveredInverse-below : (total ys : List ℕ) → total ≡ recoveredInverse (setOf set) 1 (transformSize (setOf set) 1) ys
+    -- where these are recovered, they are residues
+    pub message-below : (total ys : List ℕ) → take (p .d) total ≡ recoveredInverse (setOf set) 1 (p .d) ys
         → AllBelow (setOf set .q) (setOf set .d) (take (p .d - 0) (drop 0 total))
-    recoveredInverse-below total ys made =
-        let same : p .d ≡ setOf set .d = ap (λ (r : Parameters). r .d) e in
-        record {
-          each = λ k h. rw (sub-zero, getD-take (p .d) total k 0 (omega arith), made)
-              (recoveredInverse-placed set low 1 ys .residues .each k (omega (arith, message-fits)));
-        }
+    message-below total ys made = rw (sub-zero, made, e) (recoveredInverse-below set low 1 (setOf set .d) ys message-fits)
 
     -- the message added, as the code adds it
     pub message-added : (numbers bits message result : List ℕ) (half count : ℕ) → length numbers ≡ setOf set .d → bits ≡ messageBits count message
@@ -217,18 +207,16 @@ module _ (set : ℕ) (low : IsSet set) where
 
       -- the first d numbers recovered are the correlations added up
       sums-at : (j : ℕ) → j < setOf set .d
-          → at (take (setOf set .d)
-          (recoveredInverse (setOf set) 1 (transformSize (setOf set) 1)
+          → at (recoveredInverse (setOf set) 1 (setOf set .d)
           (totals (setOf set .q) (transformSize (setOf set) 1) (setOf set .t) (λ i. sent (setOf set) 1 (vector (setOf set .k + 1) ms i))
-          (λ i. vector (setOf set .d1) numbers i)))) j
+          (λ i. vector (setOf set .d1) numbers i))) j
           ≡ sum (setOf set .t) (λ i. correlation (setOf set .k + 1) (at (vector (setOf set .k + 1) ms i))
           (at (recoveredInverse (setOf set) 1 (setOf set .d + setOf set .k) (vector (setOf set .d1) numbers i))) j) % setOf set .q
       unfolding summedCorrelations
       sums-at j h =
           let fits = message-fits in
           ap (λ (ys : List ℕ). at ys j)
-          (recoveredInverse-take set 1 (setOf set .d) _ fits
-          ∙ totals-recoveredInverse set low 1 (setOf set .t) (λ i. vector (setOf set .k + 1) ms i) (λ i. vector (setOf set .d1) numbers i) (setOf set .d) fits
+          (totals-recoveredInverse set low 1 (setOf set .t) (λ i. vector (setOf set .k + 1) ms i) (λ i. vector (setOf set .d1) numbers i) (setOf set .d) fits
           (λ i b. omega (arith, multiplier-length i b, first-size (setOf set), rules set low .holds1)))
           ∙ tabulate-at (setOf set .d) _ j h
           ∙ ap (λ (s : ℕ). s % setOf set .q) (sum-cong (setOf set .t) _ _ (λ i b. correlation-short i j b h))
@@ -236,9 +224,9 @@ module _ (set : ℕ) (low : IsSet set) where
       -- with the message added, they are c2'
       pub second-sums : (message : List ℕ)
           → messageAdded (setOf set)
-          (take (setOf set .d) (recoveredInverse (setOf set) 1 (transformSize (setOf set) 1)
+          (recoveredInverse (setOf set) 1 (setOf set .d)
           (totals (setOf set .q) (transformSize (setOf set) 1) (setOf set .t) (λ i. sent (setOf set) 1 (vector (setOf set .k + 1) ms i))
-          (λ i. vector (setOf set .d1) numbers i)))) message
+          (λ i. vector (setOf set .d1) numbers i))) message
           ≡ secondSums (setOf set) numbers ms message
       unfolding messageAdded secondSums secondNumbers
       second-sums message =
@@ -248,11 +236,11 @@ module _ (set : ℕ) (low : IsSet set) where
 
       -- as they stand at the front of the total
       pub second-front : (p : Parameters) → p ≡ setOf set → (message total front : List ℕ)
-          → total ≡ recoveredInverse (setOf set) 1 (transformSize (setOf set) 1)
+          → take (p .d) total ≡ recoveredInverse (setOf set) 1 (p .d)
           (totals (setOf set .q) (transformSize (setOf set) 1) (setOf set .t) (λ i. sent (setOf set) 1 (vector (setOf set .k + 1) ms i))
           (λ i. vector (setOf set .d1) numbers i))
           → front ≡ messageAdded (setOf set) (take (p .d - 0) (drop 0 total)) message
           → take (setOf set .d) (take 0 total ++ (front ++ drop (p .d - 0) (drop 0 total))) ≡ secondSums (setOf set) numbers ms message
       second-front p e message total front made added =
-          let same : front ≡ secondSums (setOf set) numbers ms message = added ∙ rw (e, sub-zero, made) (second-sums message) in
+          let same : front ≡ secondSums (setOf set) numbers ms message = added ∙ rw (sub-zero, made, e) (second-sums message) in
           take-at front (drop (p .d - 0) (drop 0 total)) (setOf set .d) (ap length same ∙ sums-length message) ∙ same

@@ -10,19 +10,20 @@ ghost use lib.ListN.{length, replicate};
 ghost use Rattle.calls.specs.Outcome.{outcome, leaves, refuse, accepted};
 ghost use Rattle.calls.specs.Region.{vector};
 ghost use Rattle.sets.specs.Table.{setOf, IsSet};
-ghost use Rattle.sets.specs.Derived.{transformSize, rootPowers};
+ghost use Rattle.sets.specs.Derived.{transformSize};
 ghost use Rattle.draws.specs.Uniform.{taken};
 ghost use Rattle.byte_source.specs.Source.{stateAt};
 ghost use Rattle.samplers.specs.Blocks.{onward, uniform, uniformAnswer};
 ghost use Rattle.samplers.specs.Seeded.{publicDrawn};
 ghost use Rattle.ntt_products.specs.Stored.{sent, totals};
+ghost use Rattle.ntt_products.specs.Placed.{tableLength, RootTables};
 ghost use Rattle.scheme.specs.Answers.{allTaken};
 ghost use Rattle.scheme.specs.Encryption.{publicPolynomial, firstBytes};
 ghost use Rattle.cpa_encrypt.specs.Parts.{Multipliers, packedFirst};
 
 // Draws one public polynomial from the output of `counter` on and sends it.
-fn send_drawn(set: usize, powers: &[u32], seed: &[u8], counter: u32, y: &mut [u32]) -> Advance
-    requires { ⌜ (1 ≤ set) × IsSet set × (now powers ≡ rootPowers (setOf set) 2) × (length (now seed) ≡ 32) × (counter < 2 ^ 31)
+fn send_drawn(set: usize, tables: &[u32], seed: &[u8], counter: u32, y: &mut [u32]) -> Advance
+    requires { ⌜ (1 ≤ set) × IsSet set × RootTables (setOf set) 2 (now tables) × (length (now seed) ≡ 32) × (counter < 2 ^ 31)
         × (length (now y) ≡ transformSize (setOf set) 2) ⌝ }
     ensures answer { λ r. ⌜ onward (now (seed .entry)) r
         ≡ uniformAnswer (setOf set) (stateAt (now (seed .entry)) counter) (setOf set .bytpca) (setOf set .n) ⌝ }
@@ -36,7 +37,7 @@ fn send_drawn(set: usize, powers: &[u32], seed: &[u8], counter: u32, y: &mut [u3
     let Advance::Counter(_) = drawn else {
         return drawn;
     };
-    ntt_products::send_first(set, 2, powers, y, n);
+    ntt_products::send_first(set, 2, tables, y, n);
     drawn
 }
 
@@ -45,12 +46,12 @@ fn sum_products(
     set: usize,
     seed: &[u8],
     multipliers: &[u32],
-    powers: &[u32],
+    tables: &[u32],
     total: &mut [u32],
     x: &mut [u32],
     y: &mut [u32],
 ) -> Answer
-    requires { ⌜ (1 ≤ set) × IsSet set × (length (now seed) ≡ 32) × Multipliers (setOf set) (now multipliers) × (now powers ≡ rootPowers (setOf set) 2)
+    requires { ⌜ (1 ≤ set) × IsSet set × (length (now seed) ≡ 32) × Multipliers (setOf set) (now multipliers) × RootTables (setOf set) 2 (now tables)
         × (now total ≡ replicate (transformSize (setOf set) 2) 0) × (length (now x) ≡ transformSize (setOf set) 2)
         × (length (now y) ≡ transformSize (setOf set) 2) ⌝ }
     ensures answer { λ r. ⌜ outcome r ≡ refuse (not (allTaken (setOf set .t) (publicDrawn (setOf set) (now (seed .entry))))) 5 0 accepted ⌝ }
@@ -64,8 +65,8 @@ fn sum_products(
     let mut counter: u32 = 0;
     let mut i: usize = 0;
     while i < p.t {
-        crate::vectors::send_multipliers(set, 2, powers, multipliers, i, x);
-        let drawn = send_drawn(set, powers, seed, counter, y);
+        crate::vectors::send_multipliers(set, 2, tables, multipliers, i, x);
+        let drawn = send_drawn(set, tables, seed, counter, y);
         let Advance::Counter(next) = drawn else {
             return Answer::Refused(samplers::refusal_of(drawn), 0);
         };
@@ -76,19 +77,19 @@ fn sum_products(
     Answer::Done
 }
 
-// The first part, with the table of powers and the vectors on the way in lent slices.
+// The first part, with the tables of the root and the vectors on the way in lent slices.
 fn first_with_buffers(
     set: usize,
     seed: &[u8],
     multipliers: &[u32],
     out: &mut [u8],
-    powers: &mut [u32],
+    tables: &mut [u32],
     total: &mut [u32],
     x: &mut [u32],
     y: &mut [u32],
 ) -> Answer
     requires { ⌜ (1 ≤ set) × IsSet set × (length (now seed) ≡ 32) × Multipliers (setOf set) (now multipliers) × (length (now out) ≡ firstBytes (setOf set))
-        × (length (now powers) ≡ transformSize (setOf set) 2) × (length (now total) ≡ transformSize (setOf set) 2)
+        × (length (now tables) ≡ tableLength (setOf set) 2) × (length (now total) ≡ transformSize (setOf set) 2)
         × (length (now x) ≡ transformSize (setOf set) 2) × (length (now y) ≡ transformSize (setOf set) 2) ⌝ }
     ensures answer { λ r. ⌜ outcome r ≡ refuse (not (allTaken (setOf set .t) (publicDrawn (setOf set) (now (seed .entry))))) 5 0 accepted ⌝ }
     ensures left { λ _. ⌜ now (out .exit)
@@ -96,9 +97,9 @@ fn first_with_buffers(
         (packedFirst (setOf set) (now (seed .entry)) (now (multipliers .entry))) (now (out .entry)) ⌝ }
 {
     let p = sets::parameters_of(set);
-    roots::load_powers(set, 2, powers);
+    ntt_products::load_tables(set, 2, tables);
     calls::clear(total);
-    let summed = sum_products(set, seed, multipliers, powers, total, x, y);
+    let summed = sum_products(set, seed, multipliers, tables, total, x, y);
     let Answer::Done = summed else {
         return summed;
     };
@@ -115,7 +116,8 @@ pub fn encrypt_first(set: usize, seed: &[u8], multipliers: &[u32], out: &mut [u8
         (packedFirst (setOf set) (now (seed .entry)) (now (multipliers .entry))) (now (out .entry)) ⌝ }
 {
     let size = ntt_products::size_of(set, 2);
-    let mut powers = [0u32; 3328];
+    let length = ntt_products::table_length(set, 2);
+    let mut tables = [0u32; 3605];
     let mut total = [0u32; 3328];
     let mut x = [0u32; 3328];
     let mut y = [0u32; 3328];
@@ -124,7 +126,7 @@ pub fn encrypt_first(set: usize, seed: &[u8], multipliers: &[u32], out: &mut [u8
         seed,
         multipliers,
         out,
-        &mut powers[0..size],
+        &mut tables[0..length],
         &mut total[0..size],
         &mut x[0..size],
         &mut y[0..size],

@@ -6,9 +6,10 @@ ghost use lib.ListN.{length, take, replicate};
 ghost use Rattle.maths.specs.Vector.{at, tabulate, AllBelow};
 ghost use Rattle.calls.specs.Region.{vector};
 ghost use Rattle.sets.specs.Table.{setOf, IsSet};
-ghost use Rattle.sets.specs.Derived.{transformSize, rootPowers};
+ghost use Rattle.sets.specs.Derived.{transformSize};
 ghost use Rattle.packing.specs.Digits.{Digit};
 ghost use Rattle.ntt_products.specs.Stored.{sent, totals};
+ghost use Rattle.ntt_products.specs.Placed.{tableLength, RootTables};
 ghost use Rattle.scheme.specs.Encryption.{secondBytes};
 ghost use Rattle.cpa_encrypt.specs.Parts.{Multipliers, KeyResidues, messageAdded, secondSums, packedSecond};
 
@@ -17,11 +18,11 @@ fn sum_stored(
     set: usize,
     numbers: &[u32],
     multipliers: &[u32],
-    powers: &[u32],
+    tables: &[u32],
     total: &mut [u32],
     x: &mut [u32],
 )
-    requires { ⌜ IsSet set × KeyResidues (setOf set) (now numbers) × Multipliers (setOf set) (now multipliers) × (now powers ≡ rootPowers (setOf set) 1)
+    requires { ⌜ IsSet set × KeyResidues (setOf set) (now numbers) × Multipliers (setOf set) (now multipliers) × RootTables (setOf set) 1 (now tables)
         × (now total ≡ replicate (transformSize (setOf set) 1) 0) × (length (now x) ≡ transformSize (setOf set) 1) ⌝ }
     ensures { λ _. ⌜ now (total .exit)
         ≡ totals (setOf set .q) (transformSize (setOf set) 1) (setOf set .t) (λ i. sent (setOf set) 1 (vector (setOf set .k + 1) (now (multipliers .entry)) i))
@@ -30,7 +31,7 @@ fn sum_stored(
     let p = sets::parameters_of(set);
     let mut i: usize = 0;
     while i < p.t {
-        crate::vectors::send_multipliers(set, 1, powers, multipliers, i, x);
+        crate::vectors::send_multipliers(set, 1, tables, multipliers, i, x);
         let from = p.d1 * i;
         let end = from + p.d1;
         ntt_products::accumulate(total, x, &numbers[from..end], p.q);
@@ -64,27 +65,27 @@ fn add_message(set: usize, message: &[u8], numbers: &mut [u32], bits: &mut [u32]
     add_bits(numbers, bits, sets::derived::half_modulus(p), p.q);
 }
 
-// c2 before it is packed, in the first numbers of `total`; the table of powers and the vectors on the way are in lent slices.
+// c2 before it is packed, in the first numbers of `total`; the tables of the root and the vectors on the way are in lent slices.
 fn sums_with_buffers(
     set: usize,
     numbers: &[u32],
     multipliers: &[u32],
     message: &[u8],
-    powers: &mut [u32],
+    tables: &mut [u32],
     total: &mut [u32],
     x: &mut [u32],
 )
     requires { ⌜ (1 ≤ set) × IsSet set × KeyResidues (setOf set) (now numbers) × Multipliers (setOf set) (now multipliers)
-        × (length (now powers) ≡ transformSize (setOf set) 1) × (length (now total) ≡ transformSize (setOf set) 1)
+        × (length (now tables) ≡ tableLength (setOf set) 1) × (length (now total) ≡ transformSize (setOf set) 1)
         × (length (now x) ≡ transformSize (setOf set) 1) ⌝ }
     ensures { λ _. ⌜ take (setOf set .d) (now (total .exit))
         ≡ secondSums (setOf set) (now (numbers .entry)) (now (multipliers .entry)) (now (message .entry)) ⌝ }
 {
     let d = sets::parameters_of(set).d;
-    roots::load_powers(set, 1, powers);
+    ntt_products::load_tables(set, 1, tables);
     calls::clear(total);
-    sum_stored(set, numbers, multipliers, powers, total, x);
-    ntt_products::recover_all_inverse(set, 1, powers, total);
+    sum_stored(set, numbers, multipliers, tables, total, x);
+    ntt_products::recover_first_inverse(set, 1, tables, total, d);
     add_message(set, message, &mut total[0..d], &mut x[0..d]);
 }
 
@@ -95,16 +96,16 @@ fn numbers_with_buffers(
     multipliers: &[u32],
     message: &[u8],
     out: &mut [u32],
-    powers: &mut [u32],
+    tables: &mut [u32],
     total: &mut [u32],
     x: &mut [u32],
 )
     requires { ⌜ (1 ≤ set) × IsSet set × KeyResidues (setOf set) (now numbers) × Multipliers (setOf set) (now multipliers) × (length (now out) ≡ setOf set .d)
-        × (length (now powers) ≡ transformSize (setOf set) 1) × (length (now total) ≡ transformSize (setOf set) 1)
+        × (length (now tables) ≡ tableLength (setOf set) 1) × (length (now total) ≡ transformSize (setOf set) 1)
         × (length (now x) ≡ transformSize (setOf set) 1) ⌝ }
     ensures { λ _. ⌜ now (out .exit) ≡ secondSums (setOf set) (now (numbers .entry)) (now (multipliers .entry)) (now (message .entry)) ⌝ }
 {
-    sums_with_buffers(set, numbers, multipliers, message, powers, total, x);
+    sums_with_buffers(set, numbers, multipliers, message, tables, total, x);
     calls::copy_out(out, total, 0);
 }
 
@@ -121,7 +122,8 @@ pub fn second_numbers(
     ensures { λ _. ⌜ now (out .exit) ≡ secondSums (setOf set) (now (numbers .entry)) (now (multipliers .entry)) (now (message .entry)) ⌝ }
 {
     let size = ntt_products::size_of(set, 1);
-    let mut powers = [0u32; 3328];
+    let length = ntt_products::table_length(set, 1);
+    let mut tables = [0u32; 3605];
     let mut total = [0u32; 3328];
     let mut x = [0u32; 3328];
     numbers_with_buffers(
@@ -130,7 +132,7 @@ pub fn second_numbers(
         multipliers,
         message,
         out,
-        &mut powers[0..size],
+        &mut tables[0..length],
         &mut total[0..size],
         &mut x[0..size],
     );

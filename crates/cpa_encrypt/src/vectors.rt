@@ -4,20 +4,21 @@ ghost use Prim.Native.Nat.{_+_, _<_};
 ghost use lib.ListN.{length};
 ghost use Rattle.calls.specs.Region.{vector};
 ghost use Rattle.sets.specs.Table.{setOf, IsSet};
-ghost use Rattle.sets.specs.Derived.{transformSize, rootPowers};
+ghost use Rattle.sets.specs.Derived.{transformSize};
 ghost use Rattle.ntt_products.specs.Stored.{sent};
+ghost use Rattle.ntt_products.specs.Placed.{RootTables};
 ghost use Rattle.cpa_encrypt.specs.Parts.{Multipliers};
 
 // Sends multiplier polynomial `i` with root number `number` of a set.
 pub fn send_multipliers(
     set: usize,
     number: usize,
-    powers: &[u32],
+    tables: &[u32],
     multipliers: &[u32],
     i: usize,
     x: &mut [u32],
 )
-    requires { ⌜ IsSet set × (now powers ≡ rootPowers (setOf set) number) × Multipliers (setOf set) (now multipliers) × (i < setOf set .t)
+    requires { ⌜ IsSet set × RootTables (setOf set) number (now tables) × Multipliers (setOf set) (now multipliers) × (i < setOf set .t)
         × (length (now x) ≡ transformSize (setOf set) number) ⌝ }
     ensures { λ _. ⌜ now (x .exit) ≡ sent (setOf set) number (vector (setOf set .k + 1) (now (multipliers .entry)) i) ⌝ }
 {
@@ -26,5 +27,5 @@ pub fn send_multipliers(
     let from = n * i;
     let end = from + n;
     calls::copy_in(x, 0, &multipliers[from..end]);
-    ntt_products::send_first(set, number, powers, x, n);
+    ntt_products::send_first(set, number, tables, x, n);
 }

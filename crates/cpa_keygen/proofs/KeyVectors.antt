@@ -25,7 +25,7 @@ use Rattle.byte_source.specs.Source.{stateAt}
 use Rattle.samplers.specs.Seeded.{publicState, publicDrawn}
 use Rattle.samplers.proofs.Laws.{uniform-below}
 use Rattle.ntt_products.specs.Stored.{sentInverse, recoveredInverse, correlations}
-use Rattle.ntt_products.specs.Placed.{Placed, Correlated}
+use Rattle.ntt_products.specs.Placed.{Placed}
 use Rattle.ntt_products.proofs.Laws.{recoveredInverse-take, sentInverse-placed}
 use Rattle.scheme.specs.Encryption.{keyVector, publicPolynomial}
 use Rattle.scheme.specs.Answers.{isTaken, allTaken}
@@ -74,7 +74,10 @@ module _ (set : ℕ) (some : 1 ≤ set) (low : IsSet set) where
         }
 
     module _ (old new : List ℕ) (placed : Placed (setOf set) 3 (setOf set .n) old)
-        (c : Correlated (setOf set) 3 (setOf set .n) old (region work 0 (setOf set .d3)) new) (size : length new ≡ transformSize (setOf set) 3)
+        (first : take (setOf set .d + setOf set .k) new
+        ≡ correlations (setOf set .q) (take (setOf set .n) old) (recoveredInverse (setOf set) 3 (transformSize (setOf set) 3) (region work 0 (setOf set .d3)))
+        (setOf set .d + setOf set .k))
+        (size : length new ≡ transformSize (setOf set) 3)
       where
         -- number j of the correlations
         correlated-at : (j : ℕ) → j < setOf set .d + setOf set .k
@@ -86,15 +89,18 @@ module _ (set : ℕ) (some : 1 ≤ set) (low : IsSet set) where
             let third = third-size (setOf set) in
             let m = setOf set .n + setOf set .d + setOf set .k - 1 in
             let whole = recoveredInverse (setOf set) 3 (transformSize (setOf set) 3) (region work 0 (setOf set .d3)) in
-            let fits : setOf set .n + (setOf set .d + setOf set .k) ≤ transformSize (setOf set) 3 + 1 = omega (arith, kept .holds3, kept .some-n) in
             let short : length (take (setOf set .n) old) ≡ setOf set .n = length-take-le (setOf set .n) old (omega (arith, placed .size, placed .inside)) in
             sym (getD-take (setOf set .d + setOf set .k) new j 0 l)
-            ∙ ap (λ (xs : List ℕ). at xs j) (c .first (setOf set .d + setOf set .k) fits)
+            ∙ ap (λ (xs : List ℕ). at xs j) first
             ∙ tabulate-at (setOf set .d + setOf set .k) _ j l
             ∙ rw short
             (correlation-mod (setOf set .n) _ _ _ _ j (λ k u. mod-refl _)
             (λ k u. mod-eq (sym (getD-take m whole (j + k) 0 (omega (arith, kept .some-n)))
             ∙ ap (λ (xs : List ℕ). at xs (j + k)) (recoveredInverse-take set 3 m (region work 0 (setOf set .d3)) (omega (arith, kept .holds3))))) .same)
+
+        -- the correlations are residues
+        pub correlated-below : AllBelow (setOf set .q) (setOf set .d + setOf set .k) new
+        correlated-below = record { each = λ j l. rw (correlated-at j l) (mod-lt _ (omega (arith, rules set low .prime .above))) }
 
         -- the correlations plus the errors
         sums-key :

@@ -9,12 +9,12 @@ ghost use Rattle.calls.specs.Outcome.{outcome, accepted, refuse};
 ghost use Rattle.calls.specs.Region.{over, joined};
 ghost use Rattle.maths.specs.Vector.{AllBelow};
 ghost use Rattle.sets.specs.Table.{setOf, IsSet};
-ghost use Rattle.sets.specs.Derived.{transformSize, rootPowers};
+ghost use Rattle.sets.specs.Derived.{transformSize};
 ghost use Rattle.byte_source.specs.Source.{stateAt};
 ghost use Rattle.samplers.specs.Blocks.{onward, answerOf};
 ghost use Rattle.samplers.specs.Seeded.{publicState, publicDrawn};
-ghost use Rattle.ntt_products.specs.Stored.{inversePowers, sentInverse};
-ghost use Rattle.ntt_products.specs.Placed.{Placed};
+ghost use Rattle.ntt_products.specs.Stored.{sentInverse};
+ghost use Rattle.ntt_products.specs.Placed.{Placed, tableLength, RootTables, InverseTables};
 ghost use Rattle.scheme.specs.Encryption.{publicPolynomial};
 ghost use Rattle.scheme.specs.Answers.{workLength, isTaken, allTaken};
 ghost use Rattle.cpa_keygen.specs.Held.{vectorsStart, Held, sums, heldVector, storedVector};
@@ -78,8 +78,8 @@ fn add_errors(x: &mut [u32], errors: &[u32], q: u32)
 }
 
 // Vector b_i from the polynomial ā_i at the front of `x`: its correlations with the secret, plus the errors.
-fn key_vector(set: usize, i: usize, powers: &[u32], x: &mut [u32], work: &[u32])
-    requires { ⌜ (1 ≤ set) × IsSet set × (i < setOf set .t) × (now powers ≡ rootPowers (setOf set) 3) × Placed (setOf set) 3 (setOf set .n) (now x)
+fn key_vector(set: usize, i: usize, tables: &[u32], x: &mut [u32], work: &[u32])
+    requires { ⌜ (1 ≤ set) × IsSet set × (i < setOf set .t) × RootTables (setOf set) 3 (now tables) × Placed (setOf set) 3 (setOf set .n) (now x)
         × Held (setOf set) (now work) ⌝ }
     ensures { λ _. ⌜ take (setOf set .d + setOf set .k) (now (x .exit))
         ≡ heldVector (setOf set) (take (setOf set .n) (now (x .entry))) (now (work .entry)) i ⌝ }
@@ -87,14 +87,15 @@ fn key_vector(set: usize, i: usize, powers: &[u32], x: &mut [u32], work: &[u32])
     let p = sets::parameters_of(set);
     let secret = ntt_products::size_of(set, 3);
     let start = errors_start(set, i);
-    let end = start + vector_length(set);
-    ntt_products::correlate(set, 3, powers, x, p.n, &work[0..secret]);
+    let count = vector_length(set);
+    let end = start + count;
+    ntt_products::correlate(set, 3, tables, x, p.n, &work[0..secret], count);
     add_errors(x, &work[start..end], p.q);
 }
 
 // Stores the vector at the front of `x` as b̂_i.
-fn store_vector(set: usize, i: usize, powers: &[u32], x: &[u32], work: &mut [u32])
-    requires { ⌜ (1 ≤ set) × IsSet set × (i < setOf set .t) × (now powers ≡ inversePowers (setOf set) 1) × (length (now x) ≡ transformSize (setOf set) 3)
+fn store_vector(set: usize, i: usize, tables: &[u32], x: &[u32], work: &mut [u32])
+    requires { ⌜ (1 ≤ set) × IsSet set × (i < setOf set .t) × InverseTables (setOf set) 1 (now tables) × (length (now x) ≡ transformSize (setOf set) 3)
         × AllBelow (setOf set .q) (setOf set .d + setOf set .k) (now x) × (length (now work) ≡ workLength (setOf set)) ⌝ }
     ensures { λ _. ⌜ now (work .exit)
         ≡ over (now (work .entry)) (vectorsStart (setOf set) + setOf set .d1 * i)
@@ -105,7 +106,7 @@ fn store_vector(set: usize, i: usize, powers: &[u32], x: &[u32], work: &mut [u32
     let end = start + size;
     calls::copy_in(work, start, &x[0..size]);
     let n = vector_length(set);
-    ntt_products::send_first_inverse(set, 1, powers, &mut work[start..end], n);
+    ntt_products::send_first_inverse(set, 1, tables, &mut work[start..end], n);
 }
 
 // Draws the polynomial ā_i into the front of `x`.
@@ -129,14 +130,14 @@ fn next_vector(
     seed: &[u8],
     i: usize,
     counter: u32,
-    powers: &[u32],
-    inverses: &[u32],
+    tables: &[u32],
+    inverse_tables: &[u32],
     x: &mut [u32],
     work: &mut [u32],
 ) -> Advance
     requires { ⌜ (1 ≤ set) × IsSet set × (length (now seed) ≡ 32) × (i < setOf set .t)
-        × (stateAt (now seed) counter ≡ publicState (setOf set) (now seed) i) × (now powers ≡ rootPowers (setOf set) 3)
-        × (now inverses ≡ inversePowers (setOf set) 1) × (length (now x) ≡ transformSize (setOf set) 3)
+        × (stateAt (now seed) counter ≡ publicState (setOf set) (now seed) i) × RootTables (setOf set) 3 (now tables)
+        × InverseTables (setOf set) 1 (now «inverse_tables») × (length (now x) ≡ transformSize (setOf set) 3)
         × Held (setOf set) (now work) ⌝ }
     ensures answer { λ r. ⌜ onward (now (seed .entry)) r
         ≡ answerOf (publicDrawn (setOf set) (now (seed .entry)) i) (publicState (setOf set) (now (seed .entry)) (suc i)) ⌝ }
@@ -149,8 +150,8 @@ fn next_vector(
     let Advance::Counter(_) = drawn else {
         return drawn;
     };
-    key_vector(set, i, powers, x, work);
-    store_vector(set, i, inverses, x, work);
+    key_vector(set, i, tables, x, work);
+    store_vector(set, i, inverse_tables, x, work);
     drawn
 }
 
@@ -158,12 +159,12 @@ fn next_vector(
 fn all_vectors(
     set: usize,
     seed: &[u8],
-    powers: &[u32],
-    inverses: &[u32],
+    tables: &[u32],
+    inverse_tables: &[u32],
     x: &mut [u32],
     work: &mut [u32],
 ) -> Answer
-    requires { ⌜ (1 ≤ set) × IsSet set × (length (now seed) ≡ 32) × (now powers ≡ rootPowers (setOf set) 3) × (now inverses ≡ inversePowers (setOf set) 1)
+    requires { ⌜ (1 ≤ set) × IsSet set × (length (now seed) ≡ 32) × RootTables (setOf set) 3 (now tables) × InverseTables (setOf set) 1 (now «inverse_tables»)
         × (length (now x) ≡ transformSize (setOf set) 3) × Held (setOf set) (now work) ⌝ }
     ensures answer { λ r. ⌜ outcome r ≡ refuse (not (allTaken (setOf set .t) (publicDrawn (setOf set) (now (seed .entry))))) 5 0 accepted ⌝ }
     ensures result { λ _.
@@ -176,7 +177,7 @@ fn all_vectors(
     let mut counter: u32 = 0;
     let mut i: usize = 0;
     while i < t {
-        let drawn = next_vector(set, seed, i, counter, powers, inverses, x, work);
+        let drawn = next_vector(set, seed, i, counter, tables, inverse_tables, x, work);
         let Advance::Counter(next) = drawn else {
             return Answer::Refused(samplers::refusal_of(drawn), 0);
         };
@@ -186,29 +187,29 @@ fn all_vectors(
     Answer::Done
 }
 
-// Fills the tables of powers, and stores all vectors of a public key.
+// Fills the tables of the transforms, and stores all vectors of a public key.
 fn vectors_with_buffers(
     set: usize,
     seed: &[u8],
-    powers: &mut [u32],
-    inverses: &mut [u32],
+    tables: &mut [u32],
+    inverse_tables: &mut [u32],
     x: &mut [u32],
     work: &mut [u32],
 ) -> Answer
-    requires { ⌜ (1 ≤ set) × IsSet set × (length (now seed) ≡ 32) × (length (now powers) ≡ transformSize (setOf set) 3)
-        × (length (now inverses) ≡ transformSize (setOf set) 1) × (length (now x) ≡ transformSize (setOf set) 3) × Held (setOf set) (now work) ⌝ }
+    requires { ⌜ (1 ≤ set) × IsSet set × (length (now seed) ≡ 32) × (length (now tables) ≡ tableLength (setOf set) 3)
+        × (length (now «inverse_tables») ≡ tableLength (setOf set) 1) × (length (now x) ≡ transformSize (setOf set) 3) × Held (setOf set) (now work) ⌝ }
     ensures answer { λ r. ⌜ outcome r ≡ refuse (not (allTaken (setOf set .t) (publicDrawn (setOf set) (now (seed .entry))))) 5 0 accepted ⌝ }
     ensures result { λ _.
         ⌜ (allTaken (setOf set .t) (publicDrawn (setOf set) (now (seed .entry))) ≡ true
         → now (work .exit) ≡ over (now (work .entry)) (vectorsStart (setOf set))
         (joined (setOf set .t) (storedVector (setOf set) (now (seed .entry)) (now (work .entry))))) ⌝ }
 {
-    roots::load_powers(set, 3, powers);
-    ntt_products::load_inverse_powers(set, 1, inverses);
-    all_vectors(set, seed, powers, inverses, x, work)
+    ntt_products::load_tables(set, 3, tables);
+    ntt_products::load_inverse_tables(set, 1, inverse_tables);
+    all_vectors(set, seed, tables, inverse_tables, x, work)
 }
 
-// Stores all vectors of a public key, with room for the tables of powers and for the numbers on the way.
+// Stores all vectors of a public key, with room for the tables of the transforms and for the numbers on the way.
 pub fn store_vectors(set: usize, seed: &[u8], work: &mut [u32]) -> Answer
     requires { ⌜ (1 ≤ set) × IsSet set × (length (now seed) ≡ 32) × Held (setOf set) (now work) ⌝ }
     ensures answer { λ r. ⌜ outcome r ≡ refuse (not (allTaken (setOf set .t) (publicDrawn (setOf set) (now (seed .entry))))) 5 0 accepted ⌝ }
@@ -217,17 +218,18 @@ pub fn store_vectors(set: usize, seed: &[u8], work: &mut [u32]) -> Answer
         → now (work .exit) ≡ over (now (work .entry)) (vectorsStart (setOf set))
         (joined (setOf set .t) (storedVector (setOf set) (now (seed .entry)) (now (work .entry))))) ⌝ }
 {
-    let mut powers = [0u32; 3328];
-    let mut inverses = [0u32; 3328];
+    let mut tables = [0u32; 3605];
+    let mut inverse_tables = [0u32; 3605];
     let mut x = [0u32; 3328];
-    let largest = ntt_products::size_of(set, 3);
-    let first = ntt_products::size_of(set, 1);
+    let third = ntt_products::table_length(set, 3);
+    let first = ntt_products::table_length(set, 1);
+    let size = ntt_products::size_of(set, 3);
     vectors_with_buffers(
         set,
         seed,
-        &mut powers[0..largest],
-        &mut inverses[0..first],
-        &mut x[0..largest],
+        &mut tables[0..third],
+        &mut inverse_tables[0..first],
+        &mut x[0..size],
         work,
     )
 }

@@ -11,6 +11,7 @@ pub mod Product
 pub mod Cancelling
 pub mod Split
 pub mod Radix
+pub mod Fourfold
 pub mod Transform
 pub mod Integer
 pub mod Reverse

@@ -1,10 +1,9 @@
--- A transform of even size from two transforms of half the size, and the passes of a transform of size 2^k in natural order (Stockham).
+-- A transform of even size from two transforms of half the size, and what the steps of a transform have done so far.
 -- Assumes nothing.
 use mathlib.Core.Path.{_≡_, sym, _∙_}
 use mathlib.Core.Logic.{inl, inr}
-use Prim.Native.Nat.{ℕ, _+_, _-_, _*_, _^_, _<_}
-use native.Mathlib.Nat.{pow-zero, pow-suc, one-mul, add-zero, zero-add, mul-one, mul-zero, mul-assoc, mul-comm, mul-add, add-sub-of-le}
-use native.Mathlib.Decide.{decLe}
+use Prim.Native.Nat.{ℕ, _+_, _*_, _^_, _<_}
+use native.Mathlib.Nat.{pow-zero, pow-suc, one-mul, add-zero, zero-add, mul-one, mul-zero, mul-assoc, mul-comm, mul-add}
 use native.Mathlib.Omega.{arith}
 use lib.Pow.{pow-add}
 use Rattle.maths.specs.Sum.{sum}
@@ -102,46 +101,3 @@ first-pass q n w x =
 pub last-pass : {q s w : ℕ} {F y : ℕ → ℕ} → Passed q s 1 w F y → (c : ℕ) → c < s → Mod q (F c) (y c)
 unfolding transformAt sum
 last-pass p c h = simp (mul-zero, zero-add, pow-zero, mul-one) at (p .value 0 c (omega arith) h)
-
-module _ {q : ℕ} (s n w : ℕ) {F y : ℕ → ℕ} (before : Passed q s (2 * n) w F y) (minus : Mod q (w ^ (s * n) + 1) 0) (z : ℕ → ℕ) where
-  -- the root of a pass, to half the size, is −1
-  pass-minus : Mod q ((w ^ s) ^ n + 1) 0
-  pass-minus = rw pow-mul minus
-
-  -- the values that come from sums
-  pass-sums : (i c : ℕ) → i < n → c < s → ((p : ℕ) → p < n → Mod q (z (2 * s * p + c)) (y (s * p + c) + y (s * n + (s * p + c))))
-      → Mod q (F (2 * s * i + c)) (transformAt n (w ^ (2 * s)) (λ j. z (2 * s * j + c)) i)
-  pass-sums i c h k sums =
-      let place : 2 * s * i + c ≡ s * (2 * i) + c = omega arith in
-      let half : (j : ℕ) → s * n + (s * j + c) ≡ s * (n + j) + c = λ j. omega arith in
-      rw (place, mul-comm 2 s, ← pow-mul w s 2)
-      (mod-trans (before .value (2 * i) c (omega arith) k)
-      (mod-trans (radix-even n (w ^ s) _ i (whole-power n (w ^ s) pass-minus))
-      (transform-mod n _ _ _ i (λ j l. mod-sym (rw (mul-comm 2 s, half j) at (sums j l))))))
-
-  -- the values that come from differences
-  pass-differences : (d : ℕ → ℕ) (i c : ℕ) → i < n → c < s → ((p : ℕ) → p < n → Mod q (d p + y (s * n + (s * p + c))) (y (s * p + c)))
-      → ((p : ℕ) → p < n → Mod q (z (2 * s * p + (s + c))) (d p * w ^ (s * p)))
-      → Mod q (F (2 * s * i + (s + c))) (transformAt n (w ^ (2 * s)) (λ j. z (2 * s * j + (s + c))) i)
-  pass-differences d i c h k difference values =
-      let half : (j : ℕ) → s * n + (s * j + c) ≡ s * (n + j) + c = λ j. omega arith in
-      let place : 2 * s * i + (s + c) ≡ s * (2 * i + 1) + c = omega arith in
-      rw (place, mul-comm 2 s, ← pow-mul w s 2)
-      (mod-trans (before .value (2 * i + 1) c (omega arith) k)
-      (mod-trans (radix-odd n (w ^ s) _ d i pass-minus (λ j l. rw (half j) at (difference j l)))
-      (transform-mod n _ _ _ i (λ j l. mod-sym (rw (mul-comm 2 s, ← pow-mul w s j) at (values j l))))))
-
-  -- one pass: z holds the sums of the two halves of y, and their differences d times powers of the root
-  pub next-pass : (d : ℕ → ℕ) → ((p c : ℕ) → p < n → c < s → Mod q (d (s * p + c) + y (s * n + (s * p + c))) (y (s * p + c)))
-      → ((p c : ℕ) → p < n → c < s → Mod q (z (2 * s * p + c)) (y (s * p + c) + y (s * n + (s * p + c))))
-      → ((p c : ℕ) → p < n → c < s → Mod q (z (2 * s * p + (s + c))) (d (s * p + c) * w ^ (s * p))) → Passed q (2 * s) n w F z
-  next-pass d difference sums values =
-      record {
-        value = λ i c h k.
-            elim (decLe s c) [
-              | yes upper ↦ rw (← add-sub-of-le upper)
-                  (pass-differences (λ p. d (s * p + (c - s))) i (c - s) h (omega arith) (λ p l. difference p (c - s) l (omega arith))
-                  (λ p l. values p (c - s) l (omega arith)))
-              | no lower ↦ pass-sums i c h (omega arith) (λ p l. sums p c l (omega arith))
-            ];
-      }

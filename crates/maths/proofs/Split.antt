@@ -1,21 +1,28 @@
 -- A transform of size D1 · D2 as transforms of size D1 (columns), a multiplication by powers of the root (twist) and transforms of size D2 (rows): 003
 -- section 3.2.2.
 -- Assumes nothing.
-use mathlib.Core.Path.{_≡_, ap, _∙_}
-use Prim.Native.Nat.{ℕ, _+_, _*_, _^_, _≤_}
-use native.Mathlib.Nat.{mul-comm, mul-le-mul-left}
+use mathlib.Core.Path.{_≡_, sym, ap, _∙_}
+use Prim.Native.Nat.{ℕ, _+_, _*_, _/_, _%_, _^_, _≤_}
+use native.Mathlib.Nat.{mul-comm, mul-le-mul-left, div-add-mod'}
 use native.Mathlib.Omega.{arith}
 use lib.Pow.{pow-add}
 use Rattle.maths.specs.Congruence.{Mod}
 use Rattle.maths.specs.Transform.{transformAt}
 use Rattle.maths.proofs.Sum.{sum-blocks, sum-swap, sum-mul-left, sum-mul-right}
-use Rattle.maths.proofs.Congruence.{mod-eq, mod-trans, mod-one-mul, mod-pow, mod-sum}
+use Rattle.maths.proofs.Congruence.{mod-eq, mod-sym, mod-trans, mod-one-mul, mod-pow, mod-sum}
 use Rattle.maths.proofs.Power.{pow-mul, one-pow}
 use Rattle.maths.proofs.Convolution.{transform-pad}
 
 -- a power of a number whose power D is congruent to 1
 pub power-whole : {q : ℕ} (w D n : ℕ) → Mod q (w ^ D) 1 → Mod q (w ^ (D * n)) 1
 power-whole w D n h = rw (← pow-mul w D n) (mod-trans (mod-pow n h) (mod-eq (one-pow n)))
+
+-- a power whose exponent is counted modulo D
+pub power-round : {q : ℕ} (w D t : ℕ) → Mod q (w ^ D) 1 → Mod q (w ^ (t % D)) (w ^ t)
+power-round w D t h =
+    let parts : D * (t / D) + t % D ≡ t = omega (arith, div-add-mod' t D) in
+    mod-trans (mod-sym (mod-one-mul (w ^ (t % D)) (power-whole w D (t / D) h)))
+    (mod-eq (sym (pow-add w (D * (t / D)) (t % D)) ∙ ap (λ (y : ℕ). w ^ y) parts))
 
 -- the power of w at places D2 · n1 + n2 and k1 + D1 · k2 as four powers
 split-power : (w D1 D2 k1 k2 n1 n2 : ℕ)

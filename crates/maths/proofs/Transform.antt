@@ -21,11 +21,6 @@ use Rattle.maths.proofs.Convolution.{transform-mod, transform-pad, tran
 use Rattle.maths.proofs.Product.{correlation-mod}
 use Rattle.maths.proofs.Split.{rows-columns, columns-rows-pad}
 
--- the length of a transform
-pub transform-length : (q D w : ℕ) (xs : List ℕ) → length (transform q D w xs) ≡ D
-unfolding transform
-transform-length q D w xs = tabulate-length D _
-
 -- value i of a transform
 pub transform-at : (q D w : ℕ) (xs : List ℕ) (i : ℕ) → i < D → at (transform q D w xs) i ≡ transformAt D w (at xs) i % q
 unfolding transform

@@ -4,6 +4,7 @@ pub mod Sum
 pub mod Congruence
 pub mod Product
 pub mod Transform
+pub mod Butterfly
 pub mod Prime
 pub mod Root
 pub mod Integer

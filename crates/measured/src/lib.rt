@@ -1,43 +1,54 @@
 // The transforms, which are no open calls, under plain C names, for the benchmark that sets them beside the Rust comparison (bench/).
 ghost use mathlib.Core.Path.{_≡_};
+ghost use Prim.Native.Nat.{_≤_};
 ghost use lib.ListN.{length, take};
 ghost use Rattle.sets.specs.Table.{setOf, IsSet};
-ghost use Rattle.sets.specs.Derived.{transformSize, rootPowers};
-ghost use Rattle.ntt_products.specs.Stored.{inversePowers, sent, recovered};
-ghost use Rattle.ntt_products.specs.Placed.{Placed};
+ghost use Rattle.sets.specs.Derived.{transformSize};
+ghost use Rattle.ntt_products.specs.Stored.{sent, recovered};
+ghost use Rattle.ntt_products.specs.Placed.{Placed, tableLength, RootTables, InverseTables};
 
-// The powers of root number i of a set.
+// How many places the tables of transform number i of a set have.
 #[no_mangle]
-pub extern "C" fn measured_powers(set: usize, i: usize, out: &mut [u32])
-    requires { ⌜ IsSet set × (length (now out) ≡ transformSize (setOf set) i) ⌝ }
-    ensures { λ _. ⌜ now (out .exit) ≡ rootPowers (setOf set) i ⌝ }
+pub extern "C" fn measured_table_length(set: usize, i: usize) -> usize
+    requires { ⌜ IsSet set ⌝ }
+    ensures { λ r. ⌜ r ≡ tableLength (setOf set) i ⌝ }
 {
-    roots::load_powers(set, i, out);
+    ntt_products::table_length(set, i)
 }
 
-// The powers of its inverse.
+// The tables of root number i of a set.
 #[no_mangle]
-pub extern "C" fn measured_inverse_powers(set: usize, i: usize, out: &mut [u32])
-    requires { ⌜ IsSet set × (length (now out) ≡ transformSize (setOf set) i) ⌝ }
-    ensures { λ _. ⌜ now (out .exit) ≡ inversePowers (setOf set) i ⌝ }
+pub extern "C" fn measured_tables(set: usize, i: usize, out: &mut [u32])
+    requires { ⌜ IsSet set × (length (now out) ≡ tableLength (setOf set) i) ⌝ }
+    ensures { λ _. ⌜ RootTables (setOf set) i (now (out .exit)) ⌝ }
 {
-    ntt_products::load_inverse_powers(set, i, out);
+    ntt_products::load_tables(set, i, out);
+}
+
+// The tables of its inverse.
+#[no_mangle]
+pub extern "C" fn measured_inverse_tables(set: usize, i: usize, out: &mut [u32])
+    requires { ⌜ IsSet set × (length (now out) ≡ tableLength (setOf set) i) ⌝ }
+    ensures { λ _. ⌜ InverseTables (setOf set) i (now (out .exit)) ⌝ }
+{
+    ntt_products::load_inverse_tables(set, i, out);
 }
 
 // The transform of the first n numbers.
 #[no_mangle]
-pub extern "C" fn measured_send(set: usize, i: usize, powers: &[u32], x: &mut [u32], n: usize)
-    requires { ⌜ IsSet set × (now powers ≡ rootPowers (setOf set) i) × Placed (setOf set) i n (now x) ⌝ }
+pub extern "C" fn measured_send(set: usize, i: usize, tables: &[u32], x: &mut [u32], n: usize)
+    requires { ⌜ IsSet set × RootTables (setOf set) i (now tables) × Placed (setOf set) i n (now x) ⌝ }
     ensures { λ _. ⌜ now (x .exit) ≡ sent (setOf set) i (take n (now (x .entry))) ⌝ }
 {
-    ntt_products::send_first(set, i, powers, x, n);
+    ntt_products::send_first(set, i, tables, x, n);
 }
 
-// The inverse transform.
+// The first m numbers of the inverse transform.
 #[no_mangle]
-pub extern "C" fn measured_recover(set: usize, i: usize, powers: &[u32], x: &mut [u32])
-    requires { ⌜ IsSet set × (now powers ≡ inversePowers (setOf set) i) × Placed (setOf set) i (transformSize (setOf set) i) (now x) ⌝ }
-    ensures { λ _. ⌜ now (x .exit) ≡ recovered (setOf set) i (transformSize (setOf set) i) (now (x .entry)) ⌝ }
+pub extern "C" fn measured_recover(set: usize, i: usize, tables: &[u32], x: &mut [u32], m: usize)
+    requires { ⌜ IsSet set × InverseTables (setOf set) i (now tables) × Placed (setOf set) i (transformSize (setOf set) i) (now x)
+        × (m ≤ transformSize (setOf set) i) ⌝ }
+    ensures { λ _. ⌜ take m (now (x .exit)) ≡ recovered (setOf set) i m (now (x .entry)) ⌝ }
 {
-    ntt_products::recover_all(set, i, powers, x);
+    ntt_products::recover_first(set, i, tables, x, m);
 }

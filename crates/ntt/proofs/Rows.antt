@@ -1,170 +1,103 @@
--- Laws of the rows: the twist, and the invariant of the loop of a pass.
+-- The loop over the rows, for any relation of a row before and after it.
 -- Assumes nothing.
-use mathlib.Core.Path.{_≡_, refl, ap, _∙_}
-use mathlib.Core.Logic.{_≢_, inl, inr}
+use mathlib.Core.Path.{_≡_, refl, sym, _∙_}
+use mathlib.Core.Logic.{inl, inr}
 use mathlib.Core.List.{List}
-use Prim.Native.Nat.{ℕ, _+_, _-_, _*_, _/_, _%_, _^_, _≤_, _<_}
-use native.Mathlib.Nat.{div-add-mod', mod-lt, div-lt-iff-lt-mul, mul-comm, eq-or-lt-of-le, le-of-suc-le-suc}
+use Prim.Native.Nat.{ℕ, _+_, _*_, _≤_, _<_}
+use native.Mathlib.Nat.{eq-or-lt-of-le, le-of-suc-le-suc}
 use native.Mathlib.Numerals.{add-one}
 use native.Mathlib.Omega.{arith}
-use lib.Arith.{digits-lt}
-use lib.Pow.{pow-pos}
-use lib.ListN.{length, set, length-set}
-use lib.Seq.{getD-set-same, getD-set-other}
-use Rattle.maths.specs.Vector.{at}
-use Rattle.maths.proofs.Vector.{tabulate-length, tabulate-at}
-use Rattle.ntt.specs.Rows.{twisted, Pass}
-use Rattle.ntt.proofs.Places.{same-row, same-column}
+use lib.ListN.{length}
+use Rattle.maths.specs.Vector.{at, AllBelow}
+use Rattle.maths.proofs.Vector.{equal-by-place}
+use Rattle.calls.specs.Region.{region, over}
+use Rattle.calls.proofs.Region.{region-length, region-entry, region-over-same, over-outside, over-length}
+use Rattle.ntt_rows.specs.Rows.{ForwardReady, InverseReady}
+use Rattle.ntt.specs.Rows.{RowsReady, RowReplaced}
+use Rattle.ntt.proofs.Places.{same-row, row-end}
 
--- the twist keeps the length
-pub twisted-length : (q : ℕ) (powers : List ℕ) (r : ℕ) (xs : List ℕ) → length (twisted q powers r xs) ≡ length xs
-unfolding twisted
-twisted-length q powers r xs = tabulate-length (length xs) _
+-- a part of numbers below q
+part-below : {q n : ℕ} {xs : List ℕ} (start m : ℕ) → AllBelow q n xs → start + m ≤ n → AllBelow q m (region xs start m)
+part-below {xs = xs} start m below fits = record { each = λ i h. rw (region-entry xs start m i 0 h) (below .each (start + i) (omega arith)) }
 
--- a number after the twist
-pub twisted-at : (q : ℕ) (powers : List ℕ) (r : ℕ) (xs : List ℕ) (c : ℕ) → c < length xs → at (twisted q powers r xs) c ≡ at xs c * at powers (c * r) % q
-unfolding twisted
-twisted-at q powers r xs c h = tabulate-at (length xs) _ c h
+module _ {q k δ r : ℕ} {tables x : List ℕ} (ready : RowsReady q k δ tables x) (h : r < δ) where
+  -- the places of a row
+  pub row-inside : r * 256 + 256 ≤ δ * 256
+  row-inside = row-end 256 h
 
--- turn i of a pass with s · n turns: its block, which begins at `block`, and where its two results go
-pub record Turn (s n i block : ℕ) : Type 0 where
-  pub p : ℕ
-  pub c : ℕ
-  pub turn : i ≡ s * p + c
-  pub block-start : block ≡ s * p
-  pub block-below : p < n
-  pub column-below : c < s
-  pub inside : block + i + s < 2 * (s * n)
-
--- each turn has its block
-pub turn-of : (k s n i : ℕ) → s ≡ 2 ^ k → i < s * n → Turn s n i (i / 2 ^ k * s)
-turn-of k s n i e h =
-    let some : 0 < s = rw e (pow-pos k) in
-    let parts : i / s * s + i % s ≡ i = div-add-mod' i s in
-    let column : i % s < s = mod-lt i some in
-    let block : i / s < n = div-lt-iff-lt-mul some .1 (rw (mul-comm n s) h) in
-    rw (← e)
-    (record {
-      p = i / s;
-      c = i % s;
-      turn = omega arith;
-      block-start = mul-comm (i / s) s;
-      block-below = block;
-      column-below = column;
-      inside = omega (arith, digits-lt {q = i / s} {m = n} {r = s + i % s} {c = 2 * s} block (omega arith));
-    })
-
--- the results of the first i turns of a pass
-pub record Passing (q δ s n : ℕ) (powers from old : List ℕ) (i : ℕ) (to : List ℕ) : Type 0 where
-  pub within : i ≤ s * n
-  pub kept : length to ≡ length old
-  pub sums : (p c : ℕ) → p < n → c < s → s * p + c < i → at to (2 * s * p + c) ≡ (at from (s * p + c) + at from (s * n + (s * p + c))) % q
-  pub differences : (p c : ℕ) → p < n → c < s → s * p + c < i
-      → at to (2 * s * p + (s + c)) ≡ (at from (s * p + c) + (q - at from (s * n + (s * p + c)))) % q * at powers (δ * (s * p)) % q
-
--- equal places of blocks of 2 · s numbers are in one block
-same-block : (s p b i j : ℕ) → b < 2 * s → j < 2 * s → 2 * s * p + b ≡ 2 * s * i + j → p ≡ i
-same-block s p b i j h k e = same-row p i h k (omega arith)
-
--- at the same place of it
-same-offset : (s p b i j : ℕ) → b < 2 * s → j < 2 * s → 2 * s * p + b ≡ 2 * s * i + j → b ≡ j
-same-offset s p b i j h k e = same-column p i h k (omega arith)
-
-module _ {q δ s n : ℕ} {powers from old : List ℕ} where
-  -- before the first turn
-  pub passing-none : Passing q δ s n powers from old 0 old
-  passing-none =
+  -- row r may be sent
+  pub forward-ready : {by : ℕ} → by < q → ForwardReady q k by (region tables (r * 256) 256) (region tables (δ * 256) 264) (region x (r * 256) 256)
+  forward-ready small =
       record {
-        within = omega arith;
-        kept = refl;
-        sums = λ p c h l b. absurd (omega arith);
-        differences = λ p c h l b. absurd (omega arith);
+        modulus = ready .modulus;
+        by-below = small;
+        twist-size = region-length tables (r * 256) 256 (omega (arith, ready .ready .size, row-inside));
+        twist-below = part-below (r * 256) 256 (ready .ready .below) (omega (arith, row-inside));
+        tables-size = region-length tables (δ * 256) 264 (omega (arith, ready .ready .size));
+        tables-below = part-below (δ * 256) 264 (ready .ready .below) (omega arith);
+        size = region-length x (r * 256) 256 (omega (arith, ready .size, row-inside));
       }
 
-  -- after the last turn
-  pub passing-all : {i : ℕ} {to : List ℕ} → Passing q δ s n powers from old i to → s * n ≤ i → Pass q δ s n powers from to
-  passing-all {i} t h =
-      let inside : (p c : ℕ) → p < n → c < s → s * p + c < i = λ p c l b. omega (arith, digits-lt l b) in
-      record { sums = λ p c l b. t .sums p c l b (inside p c l b); differences = λ p c l b. t .differences p c l b (inside p c l b) }
+  -- row r may be recovered
+  pub inverse-ready : AllBelow (2 * q) 256 (region x (r * 256) 256)
+      → InverseReady q k (region tables (r * 256) 256) (region tables (δ * 256) 264) (region x (r * 256) 256)
+  inverse-ready below =
+      record {
+        modulus = ready .modulus;
+        twist-size = region-length tables (r * 256) 256 (omega (arith, ready .ready .size, row-inside));
+        twist-below = part-below (r * 256) 256 (ready .ready .below) (omega (arith, row-inside));
+        tables-size = region-length tables (δ * 256) 264 (omega (arith, ready .ready .size));
+        tables-below = part-below (δ * 256) 264 (ready .ready .below) (omega arith);
+        size = region-length x (r * 256) 256 (omega (arith, ready .size, row-inside));
+        below = below;
+      }
 
-  -- one more turn
-  module _ {i block : ℕ} {to : List ℕ} (t : Passing q δ s n powers from old i to) (turn : Turn s n i block) (room : 2 * (s * n) ≤ length old) (v u : ℕ)
-      (v-is : v ≡ (at from i + at from (s * n + i)) % q) (u-is : u ≡ (at from i + (q - at from (s * n + i))) % q * at powers (δ * block) % q) where
-    -- the two places that are written
-    first : ℕ
-    first = block + i
+-- the rows that are done after r turns
+pub record RowsDone (P : ℕ → List ℕ → List ℕ → Type 0) (δ : ℕ) (old : List ℕ) (r : ℕ) (new : List ℕ) : Type 0 where
+  pub within : r ≤ δ
+  pub kept : length new ≡ length old
+  pub done : (i : ℕ) → i < r → P i (region old (i * 256) 256) (region new (i * 256) 256)
+  pub rest : (i : ℕ) → r ≤ i → i < δ → region new (i * 256) 256 ≡ region old (i * 256) 256
 
-    second : ℕ
-    second = block + i + s
+-- another row is not touched
+other-row : (xs row : List ℕ) (δ r i : ℕ) → length xs ≡ δ * 256 → length row ≡ 256 → r < δ → i < δ → (i ≡ r → ⊥)
+    → region (over xs (r * 256) row) (i * 256) 256 ≡ region xs (i * 256) 256
+other-row xs row δ r i size long h k apart =
+    let room : r * 256 + length row ≤ length xs = omega (arith, row-end 256 h) in
+    let inside : i * 256 + 256 ≤ length xs = omega (arith, row-end 256 k) in
+    equal-by-place 256 _ _ (region-length _ (i * 256) 256 (rw (over-length xs (r * 256) row room) inside)) (region-length xs (i * 256) 256 inside)
+    (λ c l. region-entry (over xs (r * 256) row) (i * 256) 256 c 0 l
+    ∙ over-outside xs (r * 256) row room (i * 256 + c) 0 (λ j b e. apart (same-row i r l (omega arith) e))
+    ∙ sym (region-entry xs (i * 256) 256 c 0 l))
 
-    -- what is written
-    next : List ℕ
-    next = set (set to first v) second u
+module _ {P : ℕ → List ℕ → List ℕ → Type 0} {δ : ℕ} {old : List ℕ} where
+  -- before the first row
+  pub rows-none : RowsDone P δ old 0 old
+  rows-none = record { within = omega arith; kept = refl; done = λ i h. absurd (omega arith); rest = λ i h k. refl }
 
-    -- another place is as it was
-    unwritten : (k : ℕ) → k ≢ first → k ≢ second → at next k ≡ at to k
-    unfolding next
-    unwritten k a b = getD-set-other (set to first v) second k u 0 b ∙ getD-set-other to first k v 0 a
+  -- one more row
+  pub rows-more : {r : ℕ} {new next : List ℕ} → length old ≡ δ * 256 → RowsDone P δ old r new → r < δ → RowReplaced (P r) r new next
+      → RowsDone P δ old (r + 1) next
+  rows-more {r} {new} {next} size s h t =
+      let room : r * 256 + length (t .row) ≤ length new = omega (arith, row-end 256 h, s .kept, t .size) in
+      let others : (i : ℕ) → i < δ → (i ≡ r → ⊥) → region next (i * 256) 256 ≡ region new (i * 256) 256 =
+      λ i k apart. rw (t .placed) (other-row new (t .row) δ r i (s .kept ∙ size) (t .size) h k apart) in
+      record {
+        within = omega arith;
+        kept = rw (t .placed) (over-length new (r * 256) (t .row) room ∙ s .kept);
+        done = λ i l.
+            elim (eq-or-lt-of-le (le-of-suc-le-suc (rw add-one at l))) [
+              | inl last ↦ rw (last, t .placed, region-over-same new (r * 256) (t .row) room 256 (t .size), ← s .rest r (omega arith) h) (t .holds)
+              | inr less ↦ rw (others i (omega arith) (λ e. omega arith)) (s .done i less)
+            ];
+        rest = λ i l k. others i k (λ e. omega arith) ∙ s .rest i (omega arith) k;
+      }
 
-    -- a place of an earlier turn is not the first one written
-    apart-first : (p b : ℕ) → b < 2 * s → (p ≡ turn .p → b ≡ turn .c → ⊥) → 2 * s * p + b ≢ first
-    unfolding first
-    apart-first p b h other e =
-        let f : 2 * s * p + b ≡ 2 * s * turn .p + turn .c = omega arith in
-        let l : turn .c < 2 * s = omega arith in
-        other (same-block s p b (turn .p) (turn .c) h l f) (same-offset s p b (turn .p) (turn .c) h l f)
+-- what the rows ask stays as they are written
+pub rows-ready : {q k δ : ℕ} {tables old new : List ℕ} → RowsReady q k δ tables old → length new ≡ length old → RowsReady q k δ tables new
+rows-ready ready kept = record { modulus = ready .modulus; ready = ready .ready; size = kept ∙ ready .size }
 
-    -- nor the second
-    apart-second : (p b : ℕ) → b < 2 * s → (p ≡ turn .p → b ≡ s + turn .c → ⊥) → 2 * s * p + b ≢ second
-    unfolding second
-    apart-second p b h other e =
-        let f : 2 * s * p + b ≡ 2 * s * turn .p + (s + turn .c) = omega arith in
-        let l : s + turn .c < 2 * s = omega arith in
-        other (same-block s p b (turn .p) (s + turn .c) h l f) (same-offset s p b (turn .p) (s + turn .c) h l f)
-
-    -- the turns up to this one are within the pass
-    turn-below : i < s * n
-    turn-below = omega (arith, digits-lt {q = turn .p} {m = n} (turn .block-below) (turn .column-below))
-
-    -- an earlier turn is another one
-    earlier : (p c : ℕ) → s * p + c < i → p ≡ turn .p → c ≡ turn .c → ⊥
-    earlier p c h e f = omega (arith, ap (λ (y : ℕ). s * y) e)
-
-    -- this turn is the one of its block and column
-    this-block : (p c : ℕ) → c < s → s * p + c ≡ i → s * p ≡ block
-    this-block p c h e = rw (turn .block-start) (ap (λ (y : ℕ). s * y) (same-row p (turn .p) h (turn .column-below) (omega arith)))
-
-    -- the first number that is written
-    at-first : at next first ≡ v
-    unfolding next first second
-    at-first =
-        getD-set-other (set to (block + i) v) (block + i + s) (block + i) u 0 (λ e. omega arith)
-        ∙ getD-set-same to (block + i) v 0 (omega (arith, t .kept, turn .inside))
-
-    -- and the second
-    at-second : at next second ≡ u
-    unfolding next first second
-    at-second = getD-set-same (set to (block + i) v) (block + i + s) u 0 (rw length-set (omega (arith, t .kept, turn .inside)))
-
-    pub passing-more : Passing q δ s n powers from old (i + 1) (set (set to (block + i) v) (block + i + s) u)
-    unfolding next first second
-    passing-more =
-        record {
-          within = omega (arith, turn-below);
-          kept = simp length-set (t .kept);
-          sums = λ p c h l b.
-              elim (eq-or-lt-of-le (le-of-suc-le-suc (rw add-one at b))) [
-                | inl last ↦ let place : 2 * s * p + c ≡ block + i = omega (arith, this-block p c l last) in rw (place, last) (at-first ∙ v-is)
-                | inr before ↦ unwritten (2 * s * p + c) (apart-first p c (omega arith) (earlier p c before))
-                    (apart-second p c (omega arith) (λ e f. omega arith)) ∙ t .sums p c h l before
-              ];
-          differences = λ p c h l b.
-              elim (eq-or-lt-of-le (le-of-suc-le-suc (rw add-one at b))) [
-                | inl last ↦ let place : 2 * s * p + (s + c) ≡ block + i + s = omega (arith, this-block p c l last) in rw (place, last, this-block p c l last)
-                    (at-second ∙ u-is)
-                | inr before ↦
-                    unwritten (2 * s * p + (s + c)) (apart-first p (s + c) (omega arith) (λ e f. omega arith))
-                    (apart-second p (s + c) (omega arith) (λ e f. earlier p c before e (omega arith)))
-                    ∙ t .differences p c h l before
-              ];
-        }
+-- the next row is as it was
+pub row-below : {q k δ r : ℕ} {P : ℕ → List ℕ → List ℕ → Type 0} {tables old new : List ℕ} → RowsReady q k δ tables old → AllBelow (2 * q) (δ * 256) old
+    → RowsDone P δ old r new → r < δ → AllBelow (2 * q) 256 (region new (r * 256) 256)
+row-below {r = r} ready below s h = rw (s .rest r (omega arith) h) (part-below (r * 256) 256 below (row-end 256 h))

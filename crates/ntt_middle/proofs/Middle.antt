@@ -14,7 +14,7 @@ use Rattle.calls.specs.Region.{region, over}
 use Rattle.sets.specs.Table.{setOf, IsSet}
 use Rattle.sets.specs.Derived.{transformSize}
 use Rattle.ntt_products.specs.Stored.{sentInverse, recoveredInverse, correlations}
-use Rattle.ntt_products.specs.Placed.{Placed, Correlated}
+use Rattle.ntt_products.specs.Placed.{Placed}
 use Rattle.ntt_products.proofs.Recovered.{recoveredInverse-at}
 use Rattle.calls.proofs.Parts.{front}
 use Rattle.ntt_products.proofs.Front.{front-placed}
@@ -43,10 +43,11 @@ module _ (set : ℕ) (low : IsSet set) where
 
     -- the places of the correlations
     pub middle-correlated : (x y : List ℕ) → length a ≤ length x
-        → Correlated (setOf set) 3 (length a) (over x 0 (tabulate (length a) (reversed a))) (sentInverse (setOf set) 3 b) y
+        → take d y ≡ correlations (setOf set .q) (take (length a) (over x 0 (tabulate (length a) (reversed a))))
+        (recoveredInverse (setOf set) 3 (transformSize (setOf set) 3) (sentInverse (setOf set) 3 b)) d
         → region y 0 d ≡ middleProduct (setOf set .q) a b d
     unfolding region
     middle-correlated x y inside correlated =
         let numbers : take (length a) (over x 0 (tabulate (length a) (reversed a))) ≡ tabulate (length a)
         (reversed a) = rw (tabulate-length (length a) (reversed a)) at (front x (tabulate (length a) (reversed a)) (rw tabulate-length inside)) in
-        correlated .first d (omega arith) ∙ rw numbers middle-stored
+        correlated ∙ rw numbers middle-stored

@@ -11,6 +11,7 @@ ghost use Rattle.calls.specs.Region.{over};
 ghost use Rattle.sets.specs.Table.{setOf, IsSet};
 ghost use Rattle.sets.specs.Derived.{transformSize};
 ghost use Rattle.ntt_products.specs.Stored.{sentInverse};
+ghost use Rattle.ntt_products.specs.Placed.{tableLength};
 ghost use Rattle.ntt_middle.specs.Calls.{transformedShape, numbersChecked, transformedAnswer, transformedLeft, middleWorkLeft};
 ghost use Rattle.ntt_middle.specs.Lengths.{Lengths};
 
@@ -39,48 +40,57 @@ fn load_reversed(x: &mut [u32], a: &[u32])
 }
 
 // Stores `b` in the work slice, sent with the inverse of the root of a set's largest transform.
-fn store(set: usize, b: &[u32], powers: &mut [u32], work: &mut [u32])
-    requires { ⌜ IsSet set × (length (now powers) ≡ transformSize (setOf set) 3) × (length (now work) ≡ transformSize (setOf set) 3)
+fn store(set: usize, b: &[u32], tables: &mut [u32], work: &mut [u32])
+    requires { ⌜ IsSet set × (length (now tables) ≡ tableLength (setOf set) 3) × (length (now work) ≡ transformSize (setOf set) 3)
         × (length (now b) ≤ transformSize (setOf set) 3) × AllBelow (setOf set .q) (length (now b)) (now b) ⌝ }
     ensures { λ _. ⌜ now (work .exit) ≡ sentInverse (setOf set) 3 (now (b .entry)) ⌝ }
 {
-    ntt_products::load_inverse_powers(set, 3, powers);
+    ntt_products::load_inverse_tables(set, 3, tables);
     calls::copy_in(work, 0, b);
-    ntt_products::send_first_inverse(set, 3, powers, work, b.len());
+    ntt_products::send_first_inverse(set, 3, tables, work, b.len());
 }
 
-// The middle product as the correlation of the reversed `a` with the stored `b`; `powers` and `x` are lent for the way.
+// The middle product as the correlation of the reversed `a` with the stored `b`; `tables` and `x` are lent for the way.
 fn correlate_stored(
     set: usize,
     a: &[u32],
     b: &[u32],
     out: &mut [u32],
     work: &mut [u32],
-    powers: &mut [u32],
+    tables: &mut [u32],
     x: &mut [u32],
 )
     requires { ⌜ IsSet set × Lengths (setOf set) (length (now a)) (length (now b)) (length (now out)) (length (now work))
         × AllBelow (setOf set .q) (length (now a)) (now a) × AllBelow (setOf set .q) (length (now b)) (now b)
-        × (length (now powers) ≡ transformSize (setOf set) 3) × (length (now x) ≡ transformSize (setOf set) 3) ⌝ }
+        × (length (now tables) ≡ tableLength (setOf set) 3) × (length (now x) ≡ transformSize (setOf set) 3) ⌝ }
     ensures { λ _. ⌜ now (out .exit) ≡ middleProduct (setOf set .q) (now (a .entry)) (now (b .entry)) (length (now (out .entry))) ⌝ }
 {
-    store(set, b, powers, work);
-    roots::load_powers(set, 3, powers);
+    store(set, b, tables, work);
+    ntt_products::load_tables(set, 3, tables);
     load_reversed(x, a);
-    ntt_products::correlate(set, 3, powers, x, a.len(), work);
+    ntt_products::correlate(set, 3, tables, x, a.len(), work, out.len());
     calls::copy_out(out, x, 0);
 }
 
-// The middle product of residues, with room for the table of powers and for the numbers on the way.
+// The middle product of residues, with room for the tables of a root and for the numbers on the way.
 fn fill(set: usize, a: &[u32], b: &[u32], out: &mut [u32], work: &mut [u32])
     requires { ⌜ IsSet set × Lengths (setOf set) (length (now a)) (length (now b)) (length (now out)) (length (now work))
         × AllBelow (setOf set .q) (length (now a)) (now a) × AllBelow (setOf set .q) (length (now b)) (now b) ⌝ }
     ensures { λ _. ⌜ now (out .exit) ≡ middleProduct (setOf set .q) (now (a .entry)) (now (b .entry)) (length (now (out .entry))) ⌝ }
 {
-    let mut powers = [0u32; 3328];
+    let length = ntt_products::table_length(set, 3);
+    let mut tables = [0u32; 3605];
     let mut x = [0u32; 3328];
     let size = work.len();
-    correlate_stored(set, a, b, out, work, &mut powers[0..size], &mut x[0..size]);
+    correlate_stored(
+        set,
+        a,
+        b,
+        out,
+        work,
+        &mut tables[0..length],
+        &mut x[0..size],
+    );
 }
 
 // Checks the numbers, and writes the middle product where all are residues.

@@ -1,17 +1,24 @@
 -- What the transforms ask holds for every set from 0 to 12 and each of its three sizes, with the root and with its inverse.
 -- Assumes nothing.
-use mathlib.Core.Path.{_≡_, refl, _∙_}
-use mathlib.Core.List.{List}
+use mathlib.Core.Path.{_≡_, refl}
+use mathlib.Core.Logic.{_⊎_, inl, inr}
+use mathlib.Core.List.{List, _++_}
 use Prim.Native.Nat.{ℕ, zero, suc, _-_, _*_, _/_, _^_, _≤_, _<_}
-use native.Mathlib.Nat.{mod-mod, pow-suc, pow-zero, one-mul}
+use native.Mathlib.Nat.{mod-lt, zero-add}
 use native.Mathlib.Omega.{arith}
-use lib.ListN.{length}
-use Rattle.maths.specs.Vector.{at}
-use Rattle.maths.specs.Root.{Root, inverseRoot, inverseSize}
+use lib.ListN.{length, drop, length-append, length-drop}
+use lib.Seq.{take-at}
+use Rattle.maths.specs.Vector.{AllBelow}
+use Rattle.maths.specs.Root.{Root, inverseSize, powerTable}
 use Rattle.maths.proofs.Root.{root-inverse}
-use Rattle.ntt.specs.Ready.{Ready, InvertedTable}
+use Rattle.maths.proofs.Radix.{half-power}
 use Rattle.maths.proofs.PowerTable.{powerTable-length, powerTable-at}
-use Rattle.ntt.proofs.Ready.{root-ready}
+use Rattle.calls.specs.Region as regions
+use Rattle.calls.specs.Region.{region}
+use Rattle.calls.proofs.Region.{region-entry}
+use Rattle.montgomery.specs.Scaled.{Odd}
+use Rattle.ntt_tables.specs.Inverted.{InvertedTable}
+use Rattle.ntt_by_row.specs.Lent.{Sizes, OrderedPowers}
 use Rattle.sets.specs.declared.Parameters.{Parameters}
 use Rattle.sets.specs.Table.{table, setOf, IsSet}
 use Rattle.sets.specs.Derived.{transformSize, transformRoot, rootPowers}
@@ -21,12 +28,14 @@ use Rattle.sets.proofs.Transforms.{by-size, size-most}
 use Rattle.roots.proofs.Roots.{root}
 use Rattle.ntt_products.specs.Stored.{rowCount, rootInverse, sizeInverse, inversePowers}
 
--- a row is a power of two, and short; there are few rows
-record Sized (p : Parameters) (i : ℕ) : Type 0 where
-  exponent : ℕ
-  power : p .row ≡ 2 ^ exponent
-  short : p .row ≤ 256
-  few : rowCount p i ≤ 16
+-- the front of a list whose front was lent and came back as ys
+pub front-region : (ys rest : List ℕ) (n : ℕ) → length ys ≡ n → region (ys ++ rest) 0 n ≡ ys
+unfolding regions.region
+front-region ys rest n e = take-at ys rest n e
+
+-- its length
+pub front-length : {l : ℕ} (ys out : List ℕ) (n : ℕ) → length ys ≡ n → length out ≡ l → n ≤ l → length (ys ++ drop (n - 0) out) ≡ l
+front-length ys out n e size fits = simp (length-append, length-drop) (omega arith)
 
 -- a factor of a number that is not zero
 some-factor : (m n a : ℕ) → m * n ≡ a → 0 < a → 0 < m
@@ -38,10 +47,14 @@ few-rows : (D ρ : ℕ) → ρ ≡ 256 → D ≤ 3328 → D / ρ ≤ 16
 few-rows D ρ e h = rw e (omega arith)
 
 -- set 0 has rows of one number
-sized-bench : (i : ℕ) → Sized (setOf 0) i
+bench-row : setOf 0 .row ≡ 1
 unfolding setOf table
-sized-bench i =
-    record { exponent = 0; power = refl; short = omega arith; few = by-size (setOf 0) i (λ D. D / 1 ≤ 16) (omega arith) (omega arith) (omega arith) }
+bench-row = refl
+
+-- and few of them
+bench-rows : (i : ℕ) → rowCount (setOf 0) i ≤ 16
+unfolding setOf table
+bench-rows i = by-size (setOf 0) i (λ D. D / 1 ≤ 16) (omega arith) (omega arith) (omega arith)
 
 module _ (set : ℕ) (low : IsSet set) (i : ℕ) where
   -- the set keeps its rules
@@ -92,43 +105,85 @@ module _ (set : ℕ) (low : IsSet set) (i : ℕ) where
   rows-root-inverse = root-inverse rows-root
 
 -- the sets but set 0 have rows of 256 numbers
-sized : (set : ℕ) → IsSet set → (i : ℕ) → Sized (setOf set) i
-sized zero low i = sized-bench i
-sized (suc s) low i =
-    let row : setOf (suc s) .row ≡ 256 = byteRules (suc s) (omega arith) low .row-256 in
-    record {
-      exponent = 8;
-      power = row;
-      short = omega arith;
-      few = few-rows (transformSize (setOf (suc s)) i) (setOf (suc s) .row) row (size-most (suc s) low i);
-    }
+row-cases : (set : ℕ) → IsSet set → (setOf set .row ≡ 256) ⊎ (setOf set .row ≡ 1)
+row-cases zero low = inr bench-row
+row-cases (suc s) low = inl (byteRules (suc s) (omega arith) low .row-256)
 
-module _ (set : ℕ) (low : IsSet set) (i : ℕ) {powers : List ℕ} where
-  -- the powers of the root are a table for the transforms
-  pub ready : powers ≡ rootPowers (setOf set) i → Ready (setOf set .q) (setOf set .row) (rowCount (setOf set) i) (transformRoot (setOf set) i) powers
+-- there are few rows
+few : (set : ℕ) → IsSet set → (i : ℕ) → rowCount (setOf set) i ≤ 16
+few zero low i = bench-rows i
+few (suc s) low i =
+    few-rows (transformSize (setOf (suc s)) i) (setOf (suc s) .row) (byteRules (suc s) (omega arith) low .row-256) (size-most (suc s) low i)
+
+module _ (set : ℕ) (low : IsSet set) (i : ℕ) where
+  -- the modulus is odd
+  pub odd-modulus : Odd (setOf set .q)
+  odd-modulus = record { odd = omega (arith, rules set low .odd); some = some-modulus set low i; small = small-modulus set low i }
+
+  -- the sizes of the transforms
+  pub sizes : Sizes (setOf set .q) (setOf set .row) (rowCount (setOf set) i)
+  sizes =
+      record {
+        modulus = odd-modulus;
+        some-rows = some-factor (rowCount (setOf set) i) (setOf set .row) (transformSize (setOf set) i) (size-rows set low i) (omega
+            (arith, size-least set low i));
+        few-rows = few set low i;
+        row = row-cases set low;
+      }
+
+  -- the powers of a root of the size's order, of which the table is made
+  ordered : {w v e : ℕ} {tables : List ℕ} → Root (setOf set .q) (rowCount (setOf set) i * setOf set .row) w v e
+      → region tables 0 (transformSize (setOf set) i) ≡ powerTable (setOf set .q) w (transformSize (setOf set) i)
+      → OrderedPowers (setOf set .q) (setOf set .row) (rowCount (setOf set) i) w tables
+  ordered r table = record { table = rw (size-rows set low i) table; whole = r .power; half = half-power r }
+
+  -- a table of powers has residues alone
+  pub table-below : (w : ℕ) {tables : List ℕ} → region tables 0 (transformSize (setOf set) i) ≡ powerTable (setOf set .q) w (transformSize (setOf set) i)
+      → AllBelow (setOf set .q) (rowCount (setOf set) i * setOf set .row) tables
+  table-below w {tables} table =
+      rw (size-rows set low i)
+      (record {
+        each = λ j h.
+            rw (
+              ← zero-add j,
+              ← region-entry tables 0 (transformSize (setOf set) i) j 0 h,
+              table,
+              powerTable-at (setOf set .q) w (transformSize
+                  (setOf set) i) j h,
+            )
+            (mod-lt _ (omega (arith, some-modulus set low i)));
+      })
+
+  -- the tables of the root
+  pub root-ordered : {tables : List ℕ} → region tables 0 (transformSize (setOf set) i) ≡ rootPowers (setOf set) i
+      → OrderedPowers (setOf set .q) (setOf set .row) (rowCount (setOf set) i) (transformRoot (setOf set) i) tables
   unfolding rootPowers
-  ready e =
-      let s = sized set low i in
-      root-ready (s .exponent) (rows-root set low i) (small-modulus set low i) (s .few) (s .short) (s .power) (rw (size-rows set low i) e)
+  root-ordered table = ordered (rows-root set low i) table
 
-  -- and so are those of its inverse
-  pub ready-inverse : powers ≡ inversePowers (setOf set) i → Ready (setOf set .q) (setOf set .row) (rowCount (setOf set) i) (rootInverse (setOf set) i) powers
+  pub root-below : {tables : List ℕ} → region tables 0 (transformSize (setOf set) i) ≡ rootPowers (setOf set) i
+      → AllBelow (setOf set .q) (rowCount (setOf set) i * setOf set .row) tables
+  unfolding rootPowers
+  root-below table = table-below (transformRoot (setOf set) i) table
+
+  -- and of its inverse
+  pub inverse-ordered : {tables : List ℕ} → region tables 0 (transformSize (setOf set) i) ≡ inversePowers (setOf set) i
+      → OrderedPowers (setOf set .q) (setOf set .row) (rowCount (setOf set) i) (rootInverse (setOf set) i) tables
   unfolding inversePowers
-  ready-inverse e =
-      let s = sized set low i in
-      root-ready (s .exponent) (rows-root-inverse set low i) (small-modulus set low i) (s .few) (s .short) (s .power) (rw (size-rows set low i) e)
+  inverse-ordered table = ordered (rows-root-inverse set low i) table
 
-  -- whose table has the places of the transform
-  pub inverse-length : powers ≡ inversePowers (setOf set) i → length powers ≡ transformSize (setOf set) i
+  pub inverse-powers-below : {tables : List ℕ} → region tables 0 (transformSize (setOf set) i) ≡ inversePowers (setOf set) i
+      → AllBelow (setOf set .q) (rowCount (setOf set) i * setOf set .row) tables
   unfolding inversePowers
-  inverse-length e = rw e (powerTable-length (setOf set .q) (rootInverse (setOf set) i) (transformSize (setOf set) i))
+  inverse-powers-below table = table-below (rootInverse (setOf set) i) table
 
-  -- and the inverse itself at place 1
-  pub inverse-at-one : powers ≡ inversePowers (setOf set) i → at powers 1 ≡ rootInverse (setOf set) i
-  unfolding inversePowers rootInverse inverseRoot
-  inverse-at-one e =
-      rw e (powerTable-at (setOf set .q) (rootInverse (setOf set) i) (transformSize (setOf set) i) 1 (size-least set low i)
-      ∙ rw (pow-suc, pow-zero, one-mul, mod-mod))
+-- the powers of a root are as many as its transform has places
+pub rootPowers-length : (set i : ℕ) → length (rootPowers (setOf set) i) ≡ transformSize (setOf set) i
+unfolding rootPowers
+rootPowers-length set i = powerTable-length _ _ _
+
+pub inversePowers-length : (set i : ℕ) → length (inversePowers (setOf set) i) ≡ transformSize (setOf set) i
+unfolding inversePowers
+inversePowers-length set i = powerTable-length _ _ _
 
 -- the table of the root, inverted, is that of its inverse
 pub inverted-powers : (set : ℕ) (low : IsSet set) (i : ℕ) {old new : List ℕ} → old ≡ rootPowers (setOf set) i → InvertedTable old new

@@ -8,7 +8,6 @@ use lib.ListN.{length}
 use Rattle.maths.specs.Transform.{send, recover}
 use Rattle.maths.proofs.Transform.{send-length, recover-length}
 use Rattle.maths.specs.Vector.{AllBelow}
-use Rattle.ntt.specs.Ready.{Ready}
 use Rattle.ntt.proofs.Whole.{send-below, recover-below}
 use Rattle.sets.specs.Table.{setOf, IsSet}
 use Rattle.sets.specs.Derived.{transformSize}
@@ -16,20 +15,6 @@ use Rattle.ntt_products.specs.Stored.{rowCount, sizeInverse, sent, sentI
 use Rattle.ntt_products.specs.Placed.{Placed}
 use Rattle.ntt_products.proofs.Pointwise.{products-length, products-below}
 use Rattle.ntt_products.proofs.Sizes.{size-rows, some-modulus, small-modulus, inverse-below}
-
-module _ (set : ℕ) (low : IsSet set) (i : ℕ) {w : ℕ} {powers xs : List ℕ} (ready : Ready (setOf set .q) (setOf set .row) (rowCount (setOf set) i) w powers)
-  where
-    -- it fills the rows, and its first n numbers may be sent
-    pub placed-rows : {n : ℕ} → Placed (setOf set) i n xs
-        → Ready (setOf set .q) (setOf set .row) (rowCount (setOf set) i) w powers × (length xs ≡ rowCount (setOf set) i * setOf set .row)
-        × (n ≤ rowCount (setOf set) i * setOf set .row) × AllBelow (setOf set .q) n xs
-    placed-rows placed = (ready, placed .size ∙ sym (size-rows set low i), rw (size-rows set low i) (placed .inside), placed .residues)
-
-    -- where all its numbers are residues, it may be recovered
-    pub stored-rows : Placed (setOf set) i (transformSize (setOf set) i) xs
-        → Ready (setOf set .q) (setOf set .row) (rowCount (setOf set) i) w powers × (length xs ≡ rowCount (setOf set) i * setOf set .row)
-        × AllBelow (setOf set .q) (rowCount (setOf set) i * setOf set .row) xs × (sizeInverse (setOf set) i < setOf set .q)
-    stored-rows placed = (ready, placed .size ∙ sym (size-rows set low i), rw (size-rows set low i) (placed .residues), inverse-below set low i)
 
 -- xs has all places of transform number i, with a residue at each
 abbrev pub Stored : ℕ → ℕ → List ℕ → Type 0
@@ -79,6 +64,15 @@ module _ (set : ℕ) (low : IsSet set) (i : ℕ) where
   pub recovered-placed : (xs : List ℕ) → Stored set i (recovered (setOf set) i (transformSize (setOf set) i) xs)
   unfolding recovered
   recovered-placed xs = recover-stored _ _ xs
+
+  -- the first m of the numbers that are recovered are residues
+  pub recoveredInverse-below : (m : ℕ) (xs : List ℕ) → m ≤ transformSize (setOf set) i → AllBelow (setOf set .q) m (recoveredInverse (setOf set) i m xs)
+  unfolding recoveredInverse
+  recoveredInverse-below m xs fits = recover-below _ _ _ _ _ m xs some-residue (rw (size-rows set low i) fits)
+
+  pub recovered-below : (m : ℕ) (xs : List ℕ) → m ≤ transformSize (setOf set) i → AllBelow (setOf set .q) m (recovered (setOf set) i m xs)
+  unfolding recovered
+  recovered-below m xs fits = recover-below _ _ _ _ _ m xs some-residue (rw (size-rows set low i) fits)
 
   -- the products with another vector
   pub products-placed : {x : List ℕ} (y : List ℕ) → Stored set i x → Stored set i (products (setOf set .q) x y)

@@ -1,13 +1,14 @@
--- What the products ask of a vector, and what a correlation gives.
+-- What the products ask of a vector and of the tables of a transform.
 -- Assumes nothing.
 use mathlib.Core.Path.{_≡_}
 use mathlib.Core.List.{List}
 use Prim.Native.Nat.{ℕ, _+_, _≤_}
-use lib.ListN.{length, take}
+use lib.ListN.{length}
 use Rattle.maths.specs.Vector.{AllBelow}
 use Rattle.sets.specs.declared.Parameters.{Parameters}
-use Rattle.sets.specs.Derived.{transformSize}
-use Rattle.ntt_products.specs.Stored.{recoveredInverse, correlations}
+use Rattle.sets.specs.Derived.{transformSize, transformRoot}
+use Rattle.ntt_by_row.specs.Lent.{Lent, TablesFor}
+use Rattle.ntt_products.specs.Stored.{rowCount, rootInverse}
 
 -- xs has the places of transform number i, and its first n numbers are residues
 pub record Placed (p : Parameters) (i n : ℕ) (xs : List ℕ) : Type 0 where
@@ -15,7 +16,23 @@ pub record Placed (p : Parameters) (i n : ℕ) (xs : List ℕ) : Type 0 where
   pub inside : n ≤ transformSize p i
   pub residues : AllBelow (p .q) n xs
 
--- new holds the correlations of the first n numbers of old with a stored vector, in as many places as these n leave; all its numbers are residues
-pub record Correlated (p : Parameters) (i n : ℕ) (old stored new : List ℕ) : Type 0 where
-  pub first : (m : ℕ) → n + m ≤ transformSize p i + 1 → take m new ≡ correlations (p .q) (take n old) (recoveredInverse p i (transformSize p i) stored) m
-  pub residues : AllBelow (p .q) (transformSize p i) new
+-- the places of the tables of transform number i
+abbrev pub tableLength : Parameters → ℕ → ℕ
+tableLength p i = transformSize p i + 264 + rowCount p i
+
+-- tables may be those of transform number i, whatever the root
+abbrev pub SetLent : Parameters → ℕ → List ℕ → Type 0
+SetLent p i tables = Lent (p .q) (p .row) (rowCount p i) tables
+
+-- tables are those of transform number i for the root w
+abbrev pub SetTables : Parameters → ℕ → ℕ → List ℕ → Type 0
+SetTables p i w tables = TablesFor (p .q) (p .row) (rowCount p i) w tables
+
+-- the tables of root number i, and those of its inverse
+pub record RootTables (p : Parameters) (i : ℕ) (tables : List ℕ) : Type 0 where
+  pub lent : SetLent p i tables
+  pub root : SetTables p i (transformRoot p i) tables
+
+pub record InverseTables (p : Parameters) (i : ℕ) (tables : List ℕ) : Type 0 where
+  pub lent : SetLent p i tables
+  pub root : SetTables p i (rootInverse p i) tables

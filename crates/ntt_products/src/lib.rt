@@ -1,15 +1,15 @@
 // Products that go through the transforms, for every parameter set (003 section 3.2; algorithms 40 to 42).
-// A vector is lent with the places of a transform; `powers` holds the powers of its root, or of the inverse of its root.
+// A vector is lent with the places of a transform; `tables` holds those of its root, or of the inverse of its root.
 ghost use mathlib.Core.Path.{_≡_};
-ghost use Prim.Native.Nat.{_*_, _^_, _≤_, _<_};
+ghost use Prim.Native.Nat.{ℕ, _+_, _^_, _≤_, _<_};
 ghost use lib.ListN.{length, take};
-ghost use Rattle.maths.specs.Transform.{send};
+ghost use Rattle.maths.specs.Transform.{send, recover};
 ghost use Rattle.maths.specs.Vector.{AllBelow};
-ghost use Rattle.ntt.specs.Ready.{Ready};
 ghost use Rattle.sets.specs.Table.{setOf, IsSet};
-ghost use Rattle.sets.specs.Derived.{transformSize, transformRoot, rootPowers};
+ghost use Rattle.sets.specs.Derived.{transformSize};
 ghost use Rattle.ntt_products.specs.Stored.{rowCount, sizeInverse, inversePowers, sent, sentInverse, recoveredInverse, recovered, products, accumulated};
-ghost use Rattle.ntt_products.specs.Placed.{Placed, Correlated};
+ghost use Rattle.ntt_products.specs.Stored.{correlations};
+ghost use Rattle.ntt_products.specs.Placed.{Placed, tableLength, SetLent, SetTables, RootTables, InverseTables};
 
 // Multiplies each number of `x` by the number of `y` at its place.
 pub fn multiply(x: &mut [u32], y: &[u32], q: u32)
@@ -45,14 +45,6 @@ pub fn size_of(set: usize, i: usize) -> usize
     sets::derived::transform_size(sets::parameters_of(set), i)
 }
 
-// Root number i of a set.
-fn root_of(set: usize, i: usize) -> u32
-    requires { ⌜ IsSet set ⌝ }
-    ensures { λ r. ⌜ r ≡ transformRoot (setOf set) i ⌝ }
-{
-    sets::derived::transform_root(sets::parameters_of(set), i)
-}
-
 // The rows of transform number i of a set.
 fn rows_of(set: usize, i: usize) -> usize
     requires { ⌜ IsSet set ⌝ }
@@ -73,78 +65,118 @@ fn size_inverse_of(set: usize, i: usize) -> u32
 }
 
 // Fills `out` with the powers of the inverse of root number i of a set.
-pub fn load_inverse_powers(set: usize, i: usize, out: &mut [u32])
+fn load_inverse_powers(set: usize, i: usize, out: &mut [u32])
     requires { ⌜ IsSet set × (length (now out) ≡ transformSize (setOf set) i) ⌝ }
     ensures { λ _. ⌜ now (out .exit) ≡ inversePowers (setOf set) i ⌝ }
 {
     roots::load_powers(set, i, out);
-    ntt::invert_powers(out);
+    ntt_tables::invert_powers(out);
 }
 
-// How many rows the first `n` of all places take up.
-fn rows_used(n: usize, rows: usize, row: usize) -> usize
-    requires { ⌜ (0 < row) × (n ≤ rows * row) × (rows * row ≤ 4096) × (row ≤ 256) ⌝ }
-    ensures { λ r. ⌜ (r ≤ rows) × (n ≤ r * row) × (r * row ≤ rows * row) ⌝ }
+// How many places the tables of transform number i of a set have.
+pub fn table_length(set: usize, i: usize) -> usize
+    requires { ⌜ IsSet set ⌝ }
+    ensures { λ r. ⌜ r ≡ tableLength (setOf set) i ⌝ }
 {
-    (n + row - 1) / row
+    size_of(set, i) + 264 + rows_of(set, i)
 }
 
-// Sends the first `n` numbers of `x`, with zeros for the others, whatever stands there.
-fn send_front(x: &mut [u32], powers: &[u32], w: u32, n: usize, rows: usize, row: usize, q: u32)
-    requires { ⌜ Ready q row rows w (now powers) × (length (now x) ≡ rows * row) × (n ≤ rows * row) × AllBelow q n (now x) ⌝ }
-    ensures { λ _. ⌜ now (x .exit) ≡ send q row rows w (take n (now (x .entry))) ⌝ }
+// Fills `out` with the tables of root number i of a set.
+pub fn load_tables(set: usize, i: usize, out: &mut [u32])
+    requires { ⌜ IsSet set × (length (now out) ≡ tableLength (setOf set) i) ⌝ }
+    ensures { λ _. ⌜ RootTables (setOf set) i (now (out .exit)) ⌝ }
 {
-    let m = rows_used(n, rows, row);
-    calls::clear_at(x, n, m * row - n);
-    ntt::forward_padded(x, powers, w, m, rows, row, q);
+    let p = sets::parameters_of(set);
+    let size = size_of(set, i);
+    roots::load_powers(set, i, &mut out[0..size]);
+    ntt_by_row::fill_tables(out, rows_of(set, i), p.row, p.q);
+}
+
+// Fills `out` with the tables of the inverse of root number i of a set.
+pub fn load_inverse_tables(set: usize, i: usize, out: &mut [u32])
+    requires { ⌜ IsSet set × (length (now out) ≡ tableLength (setOf set) i) ⌝ }
+    ensures { λ _. ⌜ InverseTables (setOf set) i (now (out .exit)) ⌝ }
+{
+    let p = sets::parameters_of(set);
+    let size = size_of(set, i);
+    load_inverse_powers(set, i, &mut out[0..size]);
+    ntt_by_row::fill_tables(out, rows_of(set, i), p.row, p.q);
+}
+
+// Sends the first `n` numbers of `x`, with zeros for the others, with the root whose tables are lent.
+fn send_front(set: usize, i: usize, tables: &[u32], x: &mut [u32], n: usize)
+    requires { ⌜ IsSet set × SetLent (setOf set) i (now tables) × Placed (setOf set) i n (now x) ⌝ }
+    ensures { λ _. ⌜ ((w : ℕ) → SetTables (setOf set) i w (now (tables .entry))
+        → now (x .exit) ≡ send (setOf set .q) (setOf set .row) (rowCount (setOf set) i) w (take n (now (x .entry)))) ⌝ }
+{
+    let p = sets::parameters_of(set);
+    ntt_by_row::forward(x, tables, n, rows_of(set, i), p.row, p.q);
 }
 
 // Sends the first `n` numbers of `x` with root number i of a set.
-pub fn send_first(set: usize, i: usize, powers: &[u32], x: &mut [u32], n: usize)
-    requires { ⌜ IsSet set × (now powers ≡ rootPowers (setOf set) i) × Placed (setOf set) i n (now x) ⌝ }
+pub fn send_first(set: usize, i: usize, tables: &[u32], x: &mut [u32], n: usize)
+    requires { ⌜ IsSet set × RootTables (setOf set) i (now tables) × Placed (setOf set) i n (now x) ⌝ }
     ensures { λ _. ⌜ now (x .exit) ≡ sent (setOf set) i (take n (now (x .entry))) ⌝ }
 {
-    let p = sets::parameters_of(set);
-    send_front(x, powers, root_of(set, i), n, rows_of(set, i), p.row, p.q);
+    send_front(set, i, tables, x, n);
 }
 
-// Sends the first `n` numbers of `x` with the inverse of the root, which stands at place 1 of its powers.
-pub fn send_first_inverse(set: usize, i: usize, powers: &[u32], x: &mut [u32], n: usize)
-    requires { ⌜ IsSet set × (now powers ≡ inversePowers (setOf set) i) × Placed (setOf set) i n (now x) ⌝ }
+// Sends the first `n` numbers of `x` with the inverse of the root.
+pub fn send_first_inverse(set: usize, i: usize, tables: &[u32], x: &mut [u32], n: usize)
+    requires { ⌜ IsSet set × InverseTables (setOf set) i (now tables) × Placed (setOf set) i n (now x) ⌝ }
     ensures { λ _. ⌜ now (x .exit) ≡ sentInverse (setOf set) i (take n (now (x .entry))) ⌝ }
 {
-    let p = sets::parameters_of(set);
-    send_front(x, powers, powers[1], n, rows_of(set, i), p.row, p.q);
+    send_front(set, i, tables, x, n);
 }
 
-// Recovers all numbers of a vector that is stored with the inverse of root number i of a set.
-pub fn recover_all_inverse(set: usize, i: usize, powers: &[u32], x: &mut [u32])
-    requires { ⌜ IsSet set × (now powers ≡ rootPowers (setOf set) i) × Placed (setOf set) i (transformSize (setOf set) i) (now x) ⌝ }
-    ensures { λ _. ⌜ now (x .exit) ≡ recoveredInverse (setOf set) i (transformSize (setOf set) i) (now (x .entry)) ⌝ }
+// Recovers the first `m` numbers of a stored vector with the root whose tables are lent.
+fn recover_front(set: usize, i: usize, tables: &[u32], x: &mut [u32], m: usize)
+    requires { ⌜ IsSet set × SetLent (setOf set) i (now tables) × Placed (setOf set) i (transformSize (setOf set) i) (now x)
+        × (m ≤ transformSize (setOf set) i) ⌝ }
+    ensures { λ _. ⌜ ((w : ℕ) → SetTables (setOf set) i w (now (tables .entry))
+        → take m (now (x .exit)) ≡ recover (setOf set .q) (setOf set .row) (rowCount (setOf set) i) w (sizeInverse (setOf set) i) m (now (x .entry))) ⌝ }
 {
     let p = sets::parameters_of(set);
     let e = size_inverse_of(set, i);
-    ntt::inverse(x, powers, root_of(set, i), e, rows_of(set, i), p.row, p.q);
+    ntt_by_row::inverse(x, tables, e, m, rows_of(set, i), p.row, p.q);
 }
 
-// Recovers all numbers of a vector that is stored with root number i of a set.
-pub fn recover_all(set: usize, i: usize, powers: &[u32], x: &mut [u32])
-    requires { ⌜ IsSet set × (now powers ≡ inversePowers (setOf set) i) × Placed (setOf set) i (transformSize (setOf set) i) (now x) ⌝ }
-    ensures { λ _. ⌜ now (x .exit) ≡ recovered (setOf set) i (transformSize (setOf set) i) (now (x .entry)) ⌝ }
+// Recovers the first `m` numbers of a vector that is stored with the inverse of root number i of a set.
+pub fn recover_first_inverse(set: usize, i: usize, tables: &[u32], x: &mut [u32], m: usize)
+    requires { ⌜ IsSet set × RootTables (setOf set) i (now tables) × Placed (setOf set) i (transformSize (setOf set) i) (now x)
+        × (m ≤ transformSize (setOf set) i) ⌝ }
+    ensures { λ _. ⌜ take m (now (x .exit)) ≡ recoveredInverse (setOf set) i m (now (x .entry)) ⌝ }
 {
-    let p = sets::parameters_of(set);
-    let e = size_inverse_of(set, i);
-    ntt::inverse(x, powers, powers[1], e, rows_of(set, i), p.row, p.q);
+    recover_front(set, i, tables, x, m);
 }
 
-// The correlations of the first `n` numbers of `x` with the vector that is stored with the inverse of root number i of a set.
-pub fn correlate(set: usize, i: usize, powers: &[u32], x: &mut [u32], n: usize, stored: &[u32])
-    requires { ⌜ IsSet set × (now powers ≡ rootPowers (setOf set) i) × Placed (setOf set) i n (now x) × (0 < n)
-        × Placed (setOf set) i (transformSize (setOf set) i) (now stored) ⌝ }
-    ensures { λ _. ⌜ Correlated (setOf set) i n (now (x .entry)) (now (stored .entry)) (now (x .exit)) ⌝ }
+// Recovers the first `m` numbers of a vector that is stored with root number i of a set.
+pub fn recover_first(set: usize, i: usize, tables: &[u32], x: &mut [u32], m: usize)
+    requires { ⌜ IsSet set × InverseTables (setOf set) i (now tables) × Placed (setOf set) i (transformSize (setOf set) i) (now x)
+        × (m ≤ transformSize (setOf set) i) ⌝ }
+    ensures { λ _. ⌜ take m (now (x .exit)) ≡ recovered (setOf set) i m (now (x .entry)) ⌝ }
+{
+    recover_front(set, i, tables, x, m);
+}
+
+// The first `m` correlations of the first `n` numbers of `x` with the vector that is stored with the inverse of root number i of a set.
+pub fn correlate(
+    set: usize,
+    i: usize,
+    tables: &[u32],
+    x: &mut [u32],
+    n: usize,
+    stored: &[u32],
+    m: usize,
+)
+    requires { ⌜ IsSet set × RootTables (setOf set) i (now tables) × Placed (setOf set) i n (now x) × (0 < n)
+        × Placed (setOf set) i (transformSize (setOf set) i) (now stored) × (n + m ≤ transformSize (setOf set) i + 1) ⌝ }
+    ensures { λ _. ⌜ take m (now (x .exit))
+        ≡ correlations (setOf set .q) (take n (now (x .entry)))
+        (recoveredInverse (setOf set) i (transformSize (setOf set) i) (now (stored .entry))) m ⌝ }
 {
     let p = sets::parameters_of(set);
-    send_first(set, i, powers, x, n);
+    send_first(set, i, tables, x, n);
     multiply(x, stored, p.q);
-    recover_all_inverse(set, i, powers, x);
+    recover_first_inverse(set, i, tables, x, m);
 }

@@ -3,7 +3,8 @@
 use mathlib.Core.Path.{_≡_, refl, sym, ap, _∙_}
 use mathlib.Core.List.{List}
 use Prim.Native.Nat.{ℕ, _+_, _-_, _*_, _/_, _%_, _^_, _≤_, _<_}
-use native.Mathlib.Nat.{mul-zero, mul-add, mul-assoc, mul-comm, div-one, one-mul, div-div-eq-div-mul, add-mul-div-left, div-lt-iff-lt-mul, mul-le-mul-left, mul-le-mul-right}
+use native.Mathlib.Nat.{mul-zero, mul-add, mul-assoc, mul-comm, div-one, one-mul, div-div-eq-div-mul, add-mul-div-left, div-lt-iff-lt-mul, mul-le-mul-left}
+use native.Mathlib.Nat.{mul-le-mul-right}
 use native.Mathlib.Omega.{arith}
 use lib.ListN.{length, drop, take, set}
 use lib.Pow.{pow-add, pow-pos}
@@ -75,7 +76,8 @@ module _ (width cmp : ℕ) (xs : List ℕ) where
       → Filled old 0 count (packDropping width cmp count xs) (j + (k + 1)) (set new place byte)
   held-step {j = j} {place = place} count k h fits below e b f =
       let more : place + 1 ≡ j + (k + 1) = omega arith in
-      rw more at (filled-more {k = place} 0 f (omega arith) (omega arith) (b ∙ held-packed count k h fits below ∙ ap (at (packDropping width cmp count xs)) (sym e)))
+      rw more at (filled-more {k = place} 0 f (omega arith) (omega arith) (b ∙ held-packed count k h fits below ∙ ap (at
+      (packDropping width cmp count xs)) (sym e)))
 
   -- four bytes of the bits held are the next four of packed numbers
   pub held-written : {old new after : List ℕ} {i bits j held : ℕ} (count : ℕ) → Held (width - cmp) (highParts cmp xs) i bits j held → 32 ≤ bits → j + 4 ≤ count

@@ -14,9 +14,9 @@ remainder-below x e h = rw e (mod-lt x h)
 pub one-subtraction : {x q : ℕ} → q ≤ x → x < 2 * q → x - q ≡ x % q
 one-subtraction {x} {q} low high = sym (mod-eq-sub-mod {n = x} {m = q} low ∙ mod-eq-of-lt (omega arith))
 
--- what x + (2^25 − q) carries to 2^25: 1 from q on, else 0
+-- what x + (2^31 − q) carries to 2^31: 1 from q on, else 0
 abbrev pub carry : ℕ → ℕ → ℕ
-carry x q = (x + (33554432 - q)) / 33554432
+carry x q = (x + (2147483648 - q)) / 2147483648
 
 -- q times that is what the remainder of a number below 2 · q is less by
 pub carried : {x q : ℕ} → x < 2 * q → q < 2 ^ 24 → (carry x q * q ≤ x) × (x - carry x q * q ≡ x % q)

@@ -5,13 +5,13 @@ ghost use lib.IntN.{pos, _+ℤ_, natAbs};
 ghost use Rattle.maths.specs.Integer.{residue};
 ghost use Rattle.maths.specs.Rounding.{thresholdBit};
 
-// The remainder of a number below 2 · q. Its quotient, 0 or 1, is what x + (2^25 − q) carries to 2^25: in its place, a comparison would become a
+// The remainder of a number below 2 · q. Its quotient, 0 or 1, is what x + (2^31 − q) carries to 2^31: in its place, a comparison would become a
 // jump in some loops, whose time tells x.
-fn reduce_once(x: u32, q: u32) -> u32
+pub fn reduce_once(x: u32, q: u32) -> u32
     requires { ⌜ (x < 2 * q) × (q < 2 ^ 24) ⌝ }
     ensures { λ r. ⌜ r ≡ x % q ⌝ }
 {
-    x - (x + (33554432 - q)) / 33554432 * q
+    x - (x + (2147483648 - q)) / 2147483648 * q
 }
 
 // The sum of two residues.
@@ -153,6 +153,15 @@ pub fn multiply(a: u32, b: u32, q: u32) -> u32
     ensures { λ r. ⌜ r ≡ a * b % q ⌝ }
 {
     reduce_product(product(a, b), q)
+}
+
+// The place that comes `by` places after another in a table of `count` places, whose last is followed by its first.
+pub fn advance(place: usize, by: usize, count: usize) -> usize
+    requires { ⌜ (place < count) × (by < count) × (count < 2 ^ 32) ⌝ }
+    ensures { λ r. ⌜ (r ≡ (place + by) % count) × (r < count) ⌝ }
+{
+    let next = place + by;
+    if next >= count { next - count } else { next }
 }
 
 // A small number with a sign, raised by 2^24 so that it has none.

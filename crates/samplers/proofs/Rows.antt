@@ -77,7 +77,8 @@ module _ (p : Parameters) (bytes : List ℕ) where
           let same : residue (p .q) (errorAt bytes (i + r)) ≡ residue (p .q) (errorAt bytes (errorByte p i)) =
           ap (λ (k : ℕ). residue (p .q) (errorAt bytes k)) (sym byte)
           in
-          let next = reduced-more (p .q) (errorsOf p bytes) _ (rw (← w .size) at (w .written)) (omega (arith, rows-place, w .size)) (errors-at p i rows-place bytes) (e ∙ same) in
+          let next = reduced-more (p .q) (errorsOf p bytes) _ (rw (← w .size) at (w .written)) (omega (arith, rows-place, w .size))
+          (errors-at p i rows-place bytes) (e ∙ same) in
           record {
             from = omega (arith, w .from);
             to = omega arith;

@@ -1,10 +1,12 @@
 -- The numbers are unpacked, taken modulo q and recovered, which gives what they themselves recover to.
 -- Assumes nothing.
 use mathlib.Core.Path.{_∙_}
+use Prim.Native.Nat.{_+_}
 use native.Mathlib.Omega.{arith}
 use Rattle.sets.specs.Table.{setOf}
 use Rattle.sets.proofs.Rules.{rules, byteRules}
 use Rattle.packing.proofs.Laws.{unpack-length}
+use Rattle.cpa_decrypt.proofs.First.{few}
 use Rattle.cpa_decrypt.proofs.Modulo.{reduced-placed, recovered-reduced}
 use Rattle.cpa_decrypt.proofs.Room.{first-widths}
 use borrow.Author.Needs.{needs}
@@ -22,31 +24,33 @@ reduce-all-requires c κs =
     let start = c .before .before .before .before .before .before .before .before .before in
     rw (c .before .before .before .before .before .parameters-of .ensures) (omega (arith, rules (start .args .set) (start .pre .1) .odd))
 
-recover-all-requires : tie.Need-recover-all-requires
-recover-all-requires c κs =
-    let at-load-inverse-powers = c .before .before .before .before in
-    let at-reduce-all = at-load-inverse-powers .before .before .before .before in
+recover-first-requires : tie.Need-recover-first-requires
+recover-first-requires c κs =
+    let at-load-inverse-tables = c .before .before .before .before .before in
+    let at-reduce-all = at-load-inverse-tables .before .before .before .before in
     let at-unpack-into = at-reduce-all .before .before .before .before in
     let at-parameters-of = at-unpack-into .before .before in
     let start = at-parameters-of .before .before .before .before in
     let set = start .args .set in (
       start .pre .1,
-      at-load-inverse-powers .load-inverse-powers .ensures,
+      at-load-inverse-tables .load-inverse-tables .ensures,
       rw (at-reduce-all .reduce-all .ensures, at-unpack-into .unpack-into .ensures, at-parameters-of .parameters-of .ensures, start .pre .3)
           (reduced-placed set (start .pre .1) 2 _ (unpack-length (setOf set .width) _ (start .args .packed .now))),
+      rw (c .first-count .ensures) (few set (start .pre .1)),
     )
 
 returns : tie.Need-returns
 returns c =
-    let at-load-inverse-powers = c .before .before .before .before .before .before .before in
-    let at-reduce-all = at-load-inverse-powers .before .before .before .before in
+    let at-first-count = c .before .before .before in
+    let at-load-inverse-tables = at-first-count .before .before .before .before .before in
+    let at-reduce-all = at-load-inverse-tables .before .before .before .before in
     let at-unpack-into = at-reduce-all .before .before .before .before in
     let at-parameters-of = at-unpack-into .before .before in
     let start = at-parameters-of .before .before .before .before in
     let set = start .args .set in
-    c .before .before .recover-all .ensures
+    (rw (at-first-count .first-count .ensures) at (c .before .before .recover-first .ensures))
     ∙ rw (at-reduce-all .reduce-all .ensures, at-unpack-into .unpack-into .ensures, at-parameters-of .parameters-of .ensures, start .pre .3)
-    (recovered-reduced set (start .pre .1) 2 _)
+    (recovered-reduced set (start .pre .1) 2 (setOf set .n + setOf set .k) _ (few set (start .pre .1)))
 
 pub recover-first-spec : {M : Type 1} → statement M
 recover-first-spec =
@@ -56,7 +60,8 @@ recover-first-spec =
     unpack-into-requires
     reduce-all-requires
     (λ c κs. search needs)
-    recover-all-requires
+    (λ c κs. search needs)
+    recover-first-requires
     (λ c. search needs)
     (λ c. search needs)
     returns)

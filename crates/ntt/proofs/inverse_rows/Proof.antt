@@ -1,44 +1,42 @@
--- `ntt::inverse_rows` meets its contract: after r turns the first r rows are transformed and twisted.
+-- `ntt::inverse_rows` meets its contract: after r turns the first r rows are done, and the others are as they were.
 -- Assumes nothing.
+use mathlib.Core.Path.{_∙_}
 use Prim.Native.Nat.{_-_}
-use Rattle.ntt.specs.Rows.{inverseRow}
-use Rattle.ntt.proofs.AllRows.{RowsDone, rows-none, rows-next, rows-more, rows-all, after-transform, inverse-steps, inverseRow-length}
+use native.Mathlib.Omega.{arith}
+use Rattle.ntt.specs.Rows.{RowsReady, InverseAt}
+use Rattle.ntt.proofs.Rows.{RowsDone, rows-none, rows-more, rows-ready, row-below}
 use borrow.Author.Needs.{needs}
 use Rattle.ntt.proofs.inverse_rows.Statement.{statement}
 use Rattle.ntt.proofs.inverse_rows.Tie as tie
 
 abbrev Inv-loop : tie.InvT-loop
-Inv-loop x₀ powers w rows row q r₀ x r = RowsDone (inverseRow q row rows w powers) row rows x₀ r x
+Inv-loop x₀ tables rows q k r₀ x r = RowsDone (InverseAt q rows tables) rows x₀ r x
 
 abbrev μ-loop : tie.MeasureT-loop
-μ-loop x₀ powers w rows row q r₀ x r = rows - r
+μ-loop x₀ tables rows q k r₀ x r = rows - r
 
 loop-holds : tie.Need-loop-holds Inv-loop μ-loop
 loop-holds c = rows-none
 
-transform-row-at-requires : tie.Need-transform-row-at-requires Inv-loop μ-loop
-transform-row-at-requires c κs =
-    let start = c .before .before .before .before .before in
-    rows-next (start .pre .size) (c .before .before .loop .inv) (c .before .loop-test .taken) (start .pre)
-
-twist-requires : tie.Need-twist-requires Inv-loop μ-loop
-twist-requires c κs =
-    let start = c .before .before .before .before .before .before .before .before .before in
-    after-transform (rows-next (start .pre .size) (c .before .before .before .before .before .before .loop .inv)
-    (c .before .before .before .before .before .loop-test .taken) (start .pre)) (c .before .before .before .transform-row-at .ensures)
+inverse-row-at-requires : tie.Need-inverse-row-at-requires Inv-loop μ-loop
+inverse-row-at-requires c κs =
+    let pre = c .before .before .before .before .before .pre in
+    let inv = c .before .before .loop .inv in (
+      rows-ready (pre .0) (inv .kept),
+      c .before .loop-test .taken,
+      row-below (pre .0) (pre .1) inv (c .before .loop-test .taken),
+    )
 
 loop-again : tie.Need-loop-again Inv-loop μ-loop
 loop-again c =
-    let at-transform-row-at = c .before .before .before .before .before .before in
-    let start = at-transform-row-at .before .before .before .before .before .before in
-    let inv = at-transform-row-at .before .before .before .loop .inv in
-    let more = at-transform-row-at .before .before .loop-test .taken in
-    let row = rows-next (start .pre .size) inv more (start .pre) in
-    rows-more (start .pre .size) inv more (inverse-steps row (at-transform-row-at .transform-row-at .ensures) (c .before .before .twist .ensures))
-    (inverseRow-length row)
+    let pre = c .before .before .before .before .before .before .before .before .pre in
+    let turn = c .before .before .before .before .before .loop in
+    rows-more (pre .0 .size) (turn .inv) (c .before .before .before .before .loop-test .taken) (c .before .before .inverse-row-at .ensures)
 
 returns : tie.Need-returns Inv-loop μ-loop
-returns c = rows-all (c .before .loop .inv) (c .loop-test .left)
+returns c =
+    let inv = c .before .loop .inv in
+    record { size = inv .kept; rows = λ i h. inv .done i (omega (arith, inv .within, c .loop-test .left)) }
 
 pub inverse-rows-spec : {M : Type 1} → statement M
 inverse-rows-spec =
@@ -47,8 +45,7 @@ inverse-rows-spec =
     Inv-loop
     μ-loop
     loop-holds
-    transform-row-at-requires
-    twist-requires
+    inverse-row-at-requires
     (λ c. search needs)
     (λ c. search needs)
     loop-again

@@ -32,18 +32,19 @@ load-reversed-requires c κs =
 
 correlate-requires : tie.Need-correlate-requires
 correlate-requires c κs =
-    let at-load-powers = c .before .before .before .before .before .before .before .before .before in
-    let at-store = at-load-powers .before .before .before .before .before .before in
+    let at-load-tables = c .before .before .before .before .before .before .before .before .before in
+    let at-store = at-load-tables .before .before .before .before .before .before in
     let start = at-store .before .before .before .before .before .before .before .before .before in
     let args = start .args in
     let pre = start .pre in (
       pre .0,
-      at-load-powers .load-powers .ensures,
+      at-load-tables .load-tables .ensures,
       rw (c .before .before .before .before .before .load-reversed .ensures)
           (reversed-placed (args .set) (pre .0) (args .a .now) (args .x .now) (pre .5)
           (omega (arith, pre .1 .fit, pre .1 .results, pre .1 .room, third-size (setOf (args .set)))) (pre .2)),
       pre .1 .some,
       rw (at-store .store .ensures) (sentInverse-placed (args .set) (pre .0) 3 (args .b .now)),
+      omega (arith, pre .1 .fit, pre .1 .room, third-size (setOf (args .set))),
     )
 
 copy-out-requires : tie.Need-copy-out-requires
@@ -66,8 +67,8 @@ copy-out-requires c κs =
 returns : tie.Need-returns
 returns c =
     let at-correlate = c .before .before .before .before .before .before .before in
-    let at-powers2 = at-correlate .before .before .before .before .before .before .before .before .before in
-    let at-store = at-powers2 .before .before .before .before .before .before .before in
+    let at-tables2 = at-correlate .before .before .before .before .before .before .before .before .before in
+    let at-store = at-tables2 .before .before .before .before .before .before .before in
     let start = at-store .before .before .before .before .before .before .before .before .before in
     let args = start .args in
     let pre = start .pre in

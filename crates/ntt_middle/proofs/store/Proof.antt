@@ -12,11 +12,11 @@ use Rattle.ntt_middle.proofs.store.Tie as tie
 
 send-first-inverse-requires : tie.Need-send-first-inverse-requires
 send-first-inverse-requires c κs =
-    let at-load-inverse-powers = c .before .before .before .before .before .before .before .before in
-    let start = at-load-inverse-powers .before .before .before .before .before in
+    let at-load-inverse-tables = c .before .before .before .before .before .before .before .before in
+    let start = at-load-inverse-tables .before .before .before .before .before in
     let pre = start .pre in (
       pre .0,
-      at-load-inverse-powers .load-inverse-powers .ensures,
+      at-load-inverse-tables .load-inverse-tables .ensures,
       rw (c .before .before .before .before .copy-in .ensures)
           (front-placed (start .args .set) 3 (start .args .work .now) (start .args .b .now) (pre .2) (pre .3) (pre .4)),
     )

@@ -1,5 +1,7 @@
--- The first n numbers are sent, multiplied by the stored vector and recovered.
+-- `ntt_products::correlate` meets its contract: the first n numbers are sent, multiplied by the stored vector and recovered.
 -- Assumes nothing.
+use mathlib.Core.Path.{_∙_}
+use native.Mathlib.Omega.{arith}
 use lib.ListN.{take}
 use Rattle.ntt_products.proofs.Vectors.{sent-placed, factors, products-placed}
 use Rattle.ntt_products.proofs.Correlations.{correlated}
@@ -14,20 +16,21 @@ multiply-requires c κs =
     rw (c .before .before .before .before .before .parameters-of .ensures, c .before .before .before .send-first .ensures)
     (factors (args .set) (start .pre .0) (args .i) (sent-placed (args .set) (start .pre .0) (args .i) (take (args .n) (args .x .now))) (start .pre .4))
 
-recover-all-inverse-requires : tie.Need-recover-all-inverse-requires
-recover-all-inverse-requires c κs =
-    let at-parameters-of = c .before .before .before .before .before .before .before .before .before in
-    let start = at-parameters-of .before .before .before .before in
+recover-first-inverse-requires : tie.Need-recover-first-inverse-requires
+recover-first-inverse-requires c κs =
+    let at-parameters = c .before .before .before .before .before .before .before .before .before in
+    let start = at-parameters .before .before .before .before in
     let args = start .args in
     let x = take (args .n) (args .x .now) in (
       start .pre .0,
       start .pre .1,
       rw (
         c .before .before .before .multiply .ensures,
-        at-parameters-of .parameters-of .ensures,
+        at-parameters .parameters-of .ensures,
         c .before .before .before .before .before .before .before .send-first .ensures,
       )
           (products-placed (args .set) (start .pre .0) (args .i) (args .stored .now) (sent-placed (args .set) (start .pre .0) (args .i) x)),
+      omega (arith, start .pre .3, start .pre .5),
     )
 
 returns : tie.Need-returns
@@ -35,13 +38,14 @@ returns c =
     let at-x = c .before .before .before .before .before .before .before .before .before in
     let start = at-x .before .before .before .before .before .before .before in
     let args = start .args in
-    rw (
-      c .before .before .recover-all-inverse .ensures,
+    c .before .before .recover-first-inverse .ensures
+    ∙ rw (
       c .before .before .before .before .before .before .multiply .ensures,
       at-x .before .before .before .parameters-of .ensures,
-      at-x .before .send-first .ensures,
+      at-x .before
+          .send-first .ensures,
     )
-    (correlated (args .set) (start .pre .0) (args .i) (args .n) (args .x .now) (args .stored .now) (start .pre .3) (start .pre .2))
+    (correlated (args .set) (start .pre .0) (args .i) (args .n) (args .m) (args .x .now) (args .stored .now) (start .pre .3) (start .pre .2) (start .pre .5))
 
 pub correlate-spec : {M : Type 1} → statement M
 correlate-spec =
@@ -50,6 +54,6 @@ correlate-spec =
     (λ c κs. search needs)
     (λ c κs. search needs)
     multiply-requires
-    recover-all-inverse-requires
+    recover-first-inverse-requires
     (λ c. search needs)
     returns)

@@ -34,7 +34,8 @@ loop-holds c =
     let made = words c in
     let a = start made .args in (
       position-given (a .width - a .cmp) (made .pack-words .result) (omega arith) (c .before .number-with .ensures) (c .bit-of .ensures),
-      begun-filled (λ n. packDropping (a .width) (a .cmp) n (a .numbers .now)) (λ n. packDropping-length _ _ n _) (a .out .now) (made .pack-words .ensures .0) (made .pack-words .ensures .1),
+      begun-filled (λ n. packDropping (a .width) (a .cmp) n (a .numbers .now)) (λ n. packDropping-length _ _ n _) (a .out .now)
+          (made .pack-words .ensures .0) (made .pack-words .ensures .1),
     )
 
 byte-of-requires : tie.Need-byte-of-requires Inv-loop μ-loop
@@ -63,7 +64,8 @@ returns c =
     let a = start made .args in
     filled-whole (c .before .loop .inv .1) refl (omega arith)
     ∙ ap (λ (n : ℕ). packDropping (a .width) (a .cmp) n (a .numbers .now))
-    (begun-length (λ n. packDropping (a .width) (a .cmp) n (a .numbers .now)) (λ n. packDropping-length _ _ n _) (a .out .now) (made .pack-words .ensures .0) (made .pack-words .ensures .1))
+    (begun-length (λ n. packDropping (a .width) (a .cmp) n (a .numbers .now)) (λ n. packDropping-length _ _ n _) (a .out .now)
+    (made .pack-words .ensures .0) (made .pack-words .ensures .1))
 
 pub pack-dropping-spec : {M : Type 1} → statement M
 pack-dropping-spec =

@@ -62,7 +62,8 @@ loop-again c =
     let with = c .before .before .before .before .before in
     let a = start with .args in
     let more = taken with in
-    let f = held-written (a .width) (a .cmp) (a .numbers .now) (length (a .out .now)) more (omega arith) (omega arith) (turn with .loop .inv .2) (c .before .before .store-four .ensures) in
+    let f = held-written (a .width) (a .cmp) (a .numbers .now) (length (a .out .now)) more (omega arith) (omega arith) (turn with .loop .inv .2)
+    (c .before .before .store-four .ensures) in
     (omega arith, held-less more 4 (omega arith), f)
 
 loop-less-2 : tie.Need-loop-less-2 Inv-loop μ-loop

@@ -16,11 +16,11 @@ use Rattle.cpa_encrypt.proofs.first.first_with_buffers.Tie as tie
 sum-products-requires : tie.Need-sum-products-requires
 sum-products-requires c κs =
     let at-clear = c .before .before .before .before .before .before in
-    let at-load-powers = at-clear .before .before .before .before in
-    let at-parameters-of = at-load-powers .before .before in
+    let at-load-tables = at-clear .before .before .before .before in
+    let at-parameters-of = at-load-tables .before .before in
     let at-start = at-parameters-of .before .before .before .before .before .before .before .before in
     let pre = at-start .pre in
-    (pre .0, pre .1, pre .2, pre .3, at-load-powers .load-powers .ensures, at-clear .clear .ensures ∙ ap (λ (n : ℕ). replicate n 0) (pre .6), pre .7, pre .8)
+    (pre .0, pre .1, pre .2, pre .3, at-load-tables .load-tables .ensures, at-clear .clear .ensures ∙ ap (λ (n : ℕ). replicate n 0) (pre .6), pre .7, pre .8)
 
 returns : tie.Need-returns
 returns c =

@@ -18,11 +18,11 @@ use Rattle.cpa_encrypt.proofs.first.sum_products.Statement.{statement}
 use Rattle.cpa_encrypt.proofs.first.sum_products.Tie as tie
 
 abbrev Inv-loop : tie.InvT-loop
-Inv-loop set seed multipliers powers total₀ x₀ y₀ p counter₀ i₀ total x y counter i =
+Inv-loop set seed multipliers tables total₀ x₀ y₀ p counter₀ i₀ total x y counter i =
     Adding set seed multipliers (length total₀) total x y counter i
 
 abbrev μ-loop : tie.MeasureT-loop
-μ-loop set seed multipliers powers total₀ x₀ y₀ p counter₀ i₀ total x y counter i = p .t - i
+μ-loop set seed multipliers tables total₀ x₀ y₀ p counter₀ i₀ total x y counter i = p .t - i
 
 -- the start, the set's parameters, where a turn begins, where it is tested, and where its two vectors are sent
 abbrev start : tie.After-parameters-of Inv-loop μ-loop → tie.Start Inv-loop μ-loop

@@ -13,10 +13,10 @@ use Rattle.cpa_encrypt.proofs.second.sum_stored.Statement.{statement}
 use Rattle.cpa_encrypt.proofs.second.sum_stored.Tie as tie
 
 abbrev Inv-loop : tie.InvT-loop
-Inv-loop set numbers multipliers powers total₀ x₀ p i₀ total x i = Correlating set numbers multipliers (length total₀) total x i
+Inv-loop set numbers multipliers tables total₀ x₀ p i₀ total x i = Correlating set numbers multipliers (length total₀) total x i
 
 abbrev μ-loop : tie.MeasureT-loop
-μ-loop set numbers multipliers powers total₀ x₀ p i₀ total x i = p .t - i
+μ-loop set numbers multipliers tables total₀ x₀ p i₀ total x i = p .t - i
 
 loop-holds : tie.Need-loop-holds Inv-loop μ-loop
 loop-holds c =

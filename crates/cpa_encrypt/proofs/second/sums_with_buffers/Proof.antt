@@ -1,4 +1,4 @@
--- The products are added up from zero and recovered; the first d numbers are the sums of correlations, to which the message is added.
+-- The products are added up from zero, and the first d numbers are recovered: they are the sums of correlations, to which the message is added.
 -- Assumes nothing.
 use mathlib.Core.Path.{ap, _∙_}
 use Prim.Native.Nat.{ℕ}
@@ -6,97 +6,104 @@ use native.Mathlib.Omega.{arith}
 use lib.ListN.{replicate}
 use Rattle.sets.specs.declared.Parameters.{Parameters}
 use Rattle.sets.specs.Table.{setOf}
-use Rattle.sets.specs.Derived.{transformSize}
 use Rattle.ntt_products.specs.Stored.{recoveredInverse}
-use Rattle.cpa_encrypt.proofs.Correlating.{message-fits, message-part, recoveredInverse-size, recoveredInverse-below, total-stored, second-front}
+use Rattle.cpa_encrypt.proofs.Correlating.{message-fits, message-part, message-below, total-stored, second-front}
 use borrow.Author.Needs.{needs}
 use Rattle.cpa_encrypt.proofs.second.sums_with_buffers.Statement.{statement}
 use Rattle.cpa_encrypt.proofs.second.sums_with_buffers.Tie as tie
 
+-- points of the function, each from a later one: the entry, the set's parameters, the tables, the zeros, and the products added up
+abbrev start : tie.After-parameters-of → tie.Start
+start c = c .before .before .before .before .before .before .before
+
+abbrev known : tie.After-load-tables → tie.After-parameters-of
+known c = c .before .before
+
+abbrev loaded : tie.After-clear → tie.After-load-tables
+loaded c = c .before .before .before .before
+
+abbrev cleared : tie.After-sum-stored → tie.After-clear
+cleared c = c .before .before .before .before .before .before
+
+abbrev summed : tie.After-recover-first-inverse → tie.After-sum-stored
+summed c = c .before .before .before .before .before .before .before
+
 sum-stored-requires : tie.Need-sum-stored-requires
 sum-stored-requires c κs =
-    let at-clear = c .before .before .before .before .before in
-    let at-load-powers = at-clear .before .before .before .before in
-    let at-start = at-load-powers .before .before .before .before .before .before .before .before .before in
-    let pre = at-start .pre in
-    (pre .1, pre .2, pre .3, at-load-powers .load-powers .ensures, at-clear .clear .ensures ∙ ap (λ (n : ℕ). replicate n 0) (pre .5), pre .6)
+    let zeros = c .before .before .before .before .before in
+    let tables = loaded zeros in
+    let pre = start (known tables) .pre in
+    (pre .1, pre .2, pre .3, tables .load-tables .ensures, zeros .clear .ensures ∙ ap (λ (n : ℕ). replicate n 0) (pre .5), pre .6)
 
-recover-all-inverse-requires : tie.Need-recover-all-inverse-requires
-recover-all-inverse-requires c κs =
-    let at-sum-stored = c .before .before .before .before .before .before in
-    let at-powers = at-sum-stored .before .before .before .before .before .before .before .before .before in
-    let at-load-powers = at-powers .before in
-    let start = at-load-powers .before .before .before .before .before .before .before .before .before in (
-      start .pre .1,
-      at-load-powers .load-powers .ensures,
-      total-stored (start .args .set) (start .pre .1) (start .args .numbers .now) (start .args .multipliers .now) _ (at-sum-stored .sum-stored .ensures),
+recover-first-inverse-requires : tie.Need-recover-first-inverse-requires
+recover-first-inverse-requires c κs =
+    let sums = c .before .before .before .before .before .before in
+    let tables = loaded (cleared sums) in
+    let begun = start (known tables) in (
+      begun .pre .1,
+      tables .load-tables .ensures,
+      total-stored (begun .args .set) (begun .pre .1) (begun .args .numbers .now) (begun .args .multipliers .now) _ (sums .sum-stored .ensures),
+      rw (known tables .parameters-of .ensures) (message-fits (begun .args .set) (begun .pre .1)),
     )
 
 part-add-message-end : tie.Need-part-add-message-end
 part-add-message-end c =
-    let at-sum-stored = c .before .before .before .before .before .before .before .before .before in
-    let at-powers = at-sum-stored .before .before .before .before .before .before .before .before .before in
-    let at-parameters-of = at-powers .before .before .before in
-    let start = at-parameters-of .before .before .before .before .before .before .before in
-    let low = start .pre .1 in
-    let e = at-parameters-of .parameters-of .ensures in
+    let recovered = c .before .before in
+    let sums = summed recovered in
+    let at = known (loaded (cleared sums)) in
+    let begun = start at in
     omega (
       arith,
-      recoveredInverse-size (start .args .set) low _ e _ _ (c .before .before .recover-all-inverse .ensures),
-      message-fits (start .args .set) low,
-      ap (λ (r : Parameters). r .d) e,
+      recovered .recover-first-inverse .kept .1 .1 .1 .0,
+      sums .sum-stored .kept .1 .1 .1 .1 .0,
+      begun .pre .5,
+      message-fits (begun .args .set) (begun .pre .1),
+      ap (λ (r : Parameters). r .d) (at .parameters-of .ensures),
     )
 
 part-add-message-end-2 : tie.Need-part-add-message-end-2
 part-add-message-end-2 c =
-    let at-total2 = c .before .before .before .before .before .before .before .before .before in
-    let at-sum-stored = at-total2 .before in
-    let at-powers = at-sum-stored .before .before .before .before .before .before .before .before .before in
-    let at-parameters-of = at-powers .before .before .before in
-    let start = at-parameters-of .before .before .before .before .before .before .before in
-    let e = at-parameters-of .parameters-of .ensures in
+    let sums = summed (c .before .before .before) in
+    let at = known (loaded (cleared sums)) in
+    let begun = start at in
     omega (
       arith,
-      at-sum-stored .sum-stored .kept .1 .1 .1 .1 .1 .0,
-      start .pre .6,
-      message-fits (start .args .set) (start .pre .1),
-      ap (λ (r : Parameters). r .d) e,
+      sums .sum-stored .kept .1 .1 .1 .1 .1 .0,
+      begun .pre .6,
+      message-fits (begun .args .set) (begun .pre .1),
+      ap (λ (r : Parameters). r .d) (at .parameters-of .ensures),
     )
 
 add-message-requires : tie.Need-add-message-requires
 add-message-requires c κs =
-    let at-recover-all-inverse = c .before .before .before .before in
-    let at-sum-stored = at-recover-all-inverse .before .before .before .before .before .before .before in
-    let at-powers = at-sum-stored .before .before .before .before .before .before .before .before .before in
-    let at-parameters-of = at-powers .before .before .before in
-    let start = at-parameters-of .before .before .before .before .before .before .before in
-    let set = start .args .set in
-    let pre = start .pre in
-    let low = pre .1 in
-    let e = at-parameters-of .parameters-of .ensures in
-    let made = at-recover-all-inverse .recover-all-inverse .ensures in (
+    let recovered = c .before .before .before .before in
+    let sums = summed recovered in
+    let at = known (loaded (cleared sums)) in
+    let begun = start at in
+    let set = begun .args .set in
+    let pre = begun .pre in
+    let e = at .parameters-of .ensures in
+    let stored = total-stored set (pre .1) (begun .args .numbers .now) (begun .args .multipliers .now) _ (sums .sum-stored .ensures) in (
       pre .0,
-      low,
-      message-part set low _ e _ (recoveredInverse-size set low _ e _ _ made),
-      recoveredInverse-below set low _ e _ _ made,
-      message-part set low _ e _ (at-sum-stored .sum-stored .kept .1 .1 .1 .1 .1 .0 ∙ pre .6),
+      pre .1,
+      message-part set (pre .1) _ e _ (recovered .recover-first-inverse .kept .1 .1 .1 .0 ∙ stored .size),
+      message-below set (pre .1) _ e _ _ (recovered .recover-first-inverse .ensures),
+      message-part set (pre .1) _ e _ (sums .sum-stored .kept .1 .1 .1 .1 .1 .0 ∙ pre .6),
     )
 
 returns : tie.Need-returns
 returns c =
-    let at-add-message = c .before .before .before .before in
-    let at-recover-all-inverse = at-add-message .before .before .before .before .before in
-    let at-sum-stored = at-recover-all-inverse .before .before .before .before .before .before .before in
-    let at-powers = at-sum-stored .before .before .before .before .before .before .before .before .before in
-    let at-parameters-of = at-powers .before .before .before in
-    let start = at-parameters-of .before .before .before .before .before .before .before in
-    let set = start .args .set in
-    let pre = start .pre in
-    second-front set (pre .1) (start .args .numbers .now) (start .args .multipliers .now) (pre .3) _ (at-parameters-of .parameters-of .ensures)
-    (start .args .message .now) _ _
-    (at-recover-all-inverse .recover-all-inverse .ensures
-    ∙ ap (recoveredInverse (setOf set) 1 (transformSize (setOf set) 1)) (at-sum-stored .sum-stored .ensures))
-    (at-add-message .add-message .ensures)
+    let added = c .before .before .before .before in
+    let recovered = added .before .before .before .before .before in
+    let sums = summed recovered in
+    let at = known (loaded (cleared sums)) in
+    let begun = start at in
+    let set = begun .args .set in
+    let pre = begun .pre in
+    second-front set (pre .1) (begun .args .numbers .now) (begun .args .multipliers .now) (pre .3) _ (at .parameters-of .ensures)
+    (begun .args .message .now) _ _
+    (recovered .recover-first-inverse .ensures ∙ ap (recoveredInverse (setOf set) 1 (at .parameters-of .result .d)) (sums .sum-stored .ensures))
+    (added .add-message .ensures)
 
 pub sums-with-buffers-spec : {M : Type 1} → statement M
 sums-with-buffers-spec =
@@ -106,7 +113,7 @@ sums-with-buffers-spec =
     (λ c κs. search needs)
     (λ c κs. search needs)
     sum-stored-requires
-    recover-all-inverse-requires
+    recover-first-inverse-requires
     (λ c. search needs)
     (λ c. search needs)
     part-add-message-end

@@ -7,7 +7,7 @@ use lib.ListN.{length}
 use Rattle.calls.specs.Outcome.{accepted}
 use Rattle.sets.specs.declared.Parameters.{Parameters}
 use Rattle.sets.specs.Table.{setOf}
-use Rattle.sets.proofs.Rules.{byteRules}
+use Rattle.sets.proofs.Rules.{rules, byteRules}
 use Rattle.samplers.specs.Blocks.{onward, refusedBy}
 use Rattle.samplers.specs.Seeded.{publicDrawn}
 use Rattle.scheme.proofs.Taken.{allTaken-false}
@@ -18,11 +18,11 @@ use Rattle.cpa_keygen.proofs.vectors.all_vectors.Statement.{statement}
 use Rattle.cpa_keygen.proofs.vectors.all_vectors.Tie as tie
 
 abbrev Inv-loop : tie.InvT-loop
-Inv-loop set seed powers inverses x₀ work₀ t counter₀ i₀ x work counter i =
+Inv-loop set seed tables inverse-tables x₀ work₀ t counter₀ i₀ x work counter i =
     (length x ≡ length x₀) × (length work ≡ length work₀) × Vectors (setOf set) seed work₀ i counter work
 
 abbrev μ-loop : tie.MeasureT-loop
-μ-loop set seed powers inverses x₀ work₀ t counter₀ i₀ x work counter i = t - i
+μ-loop set seed tables inverse-tables x₀ work₀ t counter₀ i₀ x work counter i = t - i
 
 -- the start, the set's parameters, where a turn begins, and where its vector is stored
 abbrev start : tie.After-parameters-of Inv-loop μ-loop → tie.Start Inv-loop μ-loop
@@ -76,6 +76,12 @@ returns c =
     let one = allTaken-false (setOf set .t) (publicDrawn (setOf set) seed) i (below at) (none .not-taken) in
     (refuse-not-taken accepted one (c .refusal-of .ensures ∙ ap refusedBy told ∙ none .five), λ t. absurd (true-false t one))
 
+add-i : tie.Need-add-i Inv-loop μ-loop
+add-i c =
+    let at = stored (c .before) in
+    let from = begun (turn at) in
+    record { fits = omega (arith, below at, rules (from .args .set) (from .pre .1) .most-t) }
+
 loop-again : tie.Need-loop-again Inv-loop μ-loop
 loop-again c =
     let at = stored (c .before) in
@@ -114,7 +120,7 @@ all-vectors-spec =
     (λ c. search needs)
     (λ c. search needs)
     returns
-    (λ c. search needs)
+    add-i
     (λ c. search needs)
     loop-again
     (λ c. search needs)

@@ -28,7 +28,8 @@ reduce-scaled-requires : tie.Need-reduce-scaled-requires Inv-loop μ-loop
 reduce-scaled-requires c κs =
     let known = c .before .before .before .before .before .before in
     let start = known .before in
-    let below = little-three-below (start .args .bytes .now) (c .before .before .before .loop .position) (omega arith) (λ k. known .shared-slice-known .given k .fits)
+    let below = little-three-below (start .args .bytes .now) (c .before .before .before .loop .position) (omega arith)
+    (λ k. known .shared-slice-known .given k .fits)
     in
     (omega (arith, c .before .candidate-at .ensures, below), start .pre .0, c .before .before .before .before .before .scale .ensures)
 

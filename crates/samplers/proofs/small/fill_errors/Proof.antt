@@ -66,7 +66,8 @@ mul-out c = omega (arith, few (c .before))
 slice-write-out : tie.Need-slice-write-out Inv-loop2 μ-loop2 Inv-loop μ-loop
 slice-write-out c =
     let in-row = c .before in
-    let place = rows-place (start in-row .args .p) (start in-row .args .bytes .now) (in-row .before .loop2 .inv) (in-row .before .before .if1 .taken) (inside in-row) in
+    let place = rows-place (start in-row .args .p) (start in-row .args .bytes .now) (in-row .before .loop2 .inv) (in-row .before .before .if1 .taken)
+    (inside in-row) in
     omega (arith, place, in-row .before .loop2 .inv .size)
 
 add-i : tie.Need-add-i Inv-loop2 μ-loop2 Inv-loop μ-loop

@@ -1,0 +1,4 @@
+pub mod Newton
+pub mod Scaled
+pub mod Reduction
+pub mod Laws

@@ -1,0 +1,4 @@
+pub mod Four
+pub mod Summing
+pub mod Loading
+pub mod Blocks

@@ -1,0 +1,4 @@
+pub mod Inverted
+pub mod Fill
+pub mod Twist
+pub mod Made
