@@ -6,6 +6,7 @@ ghost use lib.ListN.{length, getD};
 
 pub mod lengths;
 pub mod random;
+pub mod script;
 
 // Prints a text as it is.
 pub fn text(bytes: &[u8]) {

@@ -8,6 +8,7 @@ pub mod middle;
 pub mod numbers;
 pub mod report;
 pub mod samplers;
+pub mod script;
 pub mod sheets;
 pub mod sponge;
 pub mod ties;

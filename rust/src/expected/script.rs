@@ -1,0 +1,23 @@
+//! A script of calls for a program of crates/run_*, and what the program prints as it runs it.
+
+use std::fmt::Write;
+
+#[derive(Default)]
+pub struct Script {
+    pub commands: String,
+    pub text: String,
+}
+
+impl Script {
+    /// A line of the script: a command and its operands, at most 16 numbers.
+    pub fn command(&mut self, numbers: &[usize]) {
+        assert!(numbers.len() <= 16);
+        let words: Vec<String> = numbers.iter().map(usize::to_string).collect();
+        writeln!(self.commands, "{}", words.join(" ")).unwrap();
+    }
+
+    /// What the last command prints.
+    pub fn print(&mut self, text: &str) {
+        self.text += text;
+    }
+}
