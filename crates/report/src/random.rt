@@ -97,7 +97,7 @@ pub fn fill_residues(values: &mut [u32], group: usize, slice: usize, q: u32) {
 }
 
 // A number of at most 4,095 with a minus sign.
-fn negative(x: usize) -> i32 {
+pub fn negative(x: usize) -> i32 {
     let z = (x % 4096) as i32;
     0 - z
 }

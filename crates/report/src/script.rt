@@ -77,3 +77,33 @@ fn at_least(x: usize, least: usize) -> usize
 {
     if x < least { least } else { x }
 }
+
+// Prints the text whose bytes stand after the command of a line, up to the first 0.
+pub fn text(line: [usize; 16]) {
+    let mut i: usize = 1;
+    while i < 16 {
+        if line[i] == 0 {
+            return;
+        }
+        let byte = [crate::low_byte(line[i])];
+        crate::text(&byte);
+        i += 1;
+    }
+}
+
+// Prints the first operands of a line, each after a space.
+pub fn operands(line: [usize; 16], count: usize) {
+    let mut i: usize = 1;
+    while i < 16 {
+        if count < i {
+            return;
+        }
+        crate::number(line[i] as u64);
+        i += 1;
+    }
+}
+
+// The lowest 32 bits of an operand.
+pub fn word(x: usize) -> u32 {
+    (x % 4294967296) as u32
+}

@@ -99,25 +99,6 @@ fn forth_inverse(set: usize, i: usize, n: usize, tables: &mut [u32], x: &mut [u3
     recover(set, i, tables, x);
 }
 
-// Both, one after the other.
-fn both_ways(set: usize, i: usize, n: usize, tables: &mut [u32], x: &mut [u32])
-    requires { ⌜ IsSet set × (n ≤ transformSize (setOf set) i) × (length (now tables) ≡ tableLength (setOf set) i)
-        × (length (now x) ≡ transformSize (setOf set) i) ⌝ }
-{
-    forth(set, i, n, tables, x);
-    forth_inverse(set, i, n, tables, x);
-}
-
-// The same in vectors of its own.
-fn sent(set: usize, i: usize, n: usize, size: usize)
-    requires { ⌜ IsSet set × (size ≡ transformSize (setOf set) i) × (n ≤ size) × (size ≤ 3328) ⌝ }
-{
-    let length = table_length(set, i);
-    let mut tables = [0u32; 3605];
-    let mut x = [0u32; 3328];
-    both_ways(set, i, n, &mut tables[0..length], &mut x[0..size]);
-}
-
 // How many places a correlation of `n` numbers settles: as many as these n leave.
 fn settled(size: usize, n: usize) -> usize
     requires { ⌜ n ≤ size ⌝ }
@@ -158,15 +139,32 @@ fn correlation(
     correlate(set, i, n, tables, x, stored);
 }
 
+// Both ways and a correlation, in slices of the lengths that the transform has.
+fn all_ways(
+    set: usize,
+    i: usize,
+    n: usize,
+    tables: &mut [u32],
+    x: &mut [u32],
+    stored: &mut [u32],
+)
+    requires { ⌜ IsSet set × (0 < n) × (n ≤ transformSize (setOf set) i) × (length (now tables) ≡ tableLength (setOf set) i)
+        × (length (now x) ≡ transformSize (setOf set) i) × (length (now stored) ≡ transformSize (setOf set) i) ⌝ }
+{
+    forth(set, i, n, tables, x);
+    forth_inverse(set, i, n, tables, x);
+    correlation(set, i, n, tables, x, stored);
+}
+
 // The same in vectors of its own.
-fn correlated(set: usize, i: usize, n: usize, size: usize)
+fn in_vectors(set: usize, i: usize, n: usize, size: usize)
     requires { ⌜ IsSet set × (size ≡ transformSize (setOf set) i) × (0 < n) × (n ≤ size) × (size ≤ 3328) ⌝ }
 {
     let length = table_length(set, i);
     let mut tables = [0u32; 3605];
     let mut x = [0u32; 3328];
     let mut stored = [0u32; 3328];
-    correlation(
+    all_ways(
         set,
         i,
         n,
@@ -176,35 +174,20 @@ fn correlated(set: usize, i: usize, n: usize, size: usize)
     );
 }
 
-// Both ways and a correlation, after the numbers of the case.
-fn line(set: usize, i: usize, n: usize, size: usize)
-    requires { ⌜ IsSet set × (size ≡ transformSize (setOf set) i) × (0 < n) × (n ≤ size) × (size ≤ 3328) ⌝ }
-{
-    report::text(b"transform");
-    report::number(set as u64);
-    report::number(i as u64);
-    report::number(n as u64);
-    sent(set, i, n, size);
-    correlated(set, i, n, size);
-    report::end();
-}
-
-// A whole vector and half of one.
-fn transform(set: usize, i: usize)
-    requires { ⌜ IsSet set ⌝ }
-{
-    let size = size_of(set, i);
-    line(set, i, size, size);
-    line(set, i, size / 2 + 1, size);
-}
-
-// The three transforms of every set.
-pub fn run() {
-    let mut set: usize = 0;
-    while set <= sets::LAST {
-        transform(set, 1);
-        transform(set, 2);
-        transform(set, 3);
-        set += 1;
+// The line of a set, the number of a transform, and how many numbers of a vector are sent.
+pub fn transform(line: [usize; 16]) {
+    let set = line[1];
+    let i = line[2];
+    let n = line[3];
+    if sets::LAST < set {
+        return;
     }
+    let size = size_of(set, i);
+    if n == 0 || size < n {
+        return;
+    }
+    report::text(b"transform");
+    report::script::operands(line, 3);
+    in_vectors(set, i, n, size);
+    report::end();
 }

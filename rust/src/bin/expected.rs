@@ -1,16 +1,18 @@
 //! Writes what each program of crates/run_* must print, and what it reads, from this implementation and the vectors alone. With `--check` it
 //! writes nothing, and fails where a file differs from what it would write. It is run from the repository's root.
 
-use comparison::expected::{cases, damage, draws, known, middle, numbers, samplers, sheets, sponge, ties, transforms, whole};
+use comparison::expected::{arithmetic, cases, damage, draws, known, samplers, sheets, sponge, ties, whole};
 use comparison::sheet::sheet;
 
 fn main() {
     let check = std::env::args().any(|word| word == "--check");
     let mut differs = false;
+    let arithmetic = arithmetic::script();
     let files = [
         ("run_bytes/stdin", known::drawn_input()),
         ("run_bytes/stdout", [known::drawn_text(), sponge::text(), draws::text(), samplers::text(), damage::bytes()].concat().into_bytes()),
-        ("run_arithmetic/stdout", [numbers::text(), middle::text(), transforms::text(), damage::arithmetic()].concat().into_bytes()),
+        ("run_arithmetic/stdin", arithmetic.commands.into_bytes()),
+        ("run_arithmetic/stdout", arithmetic.text.into_bytes()),
         ("run_scheme/stdin", [known::input(), ties::input(), sheets::input()].concat()),
         ("run_scheme/stdout", [known::text(), ties::text(), cases::text(), whole::text(), sheets::text(), damage::scheme()].concat().into_bytes()),
         ("noisesheet/stdin", sheets::BENCH.to_vec()),

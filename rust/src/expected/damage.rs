@@ -2,18 +2,18 @@
 
 use super::cases::{self, Case};
 use super::report::changed;
-use super::{draws, middle, numbers, sheets, sponge, whole};
+use super::{draws, sheets, sponge, whole};
 use crate::parameters::set;
 use crate::sponge::{kmac256, kmacxof256};
 
-const ROUNDS: usize = 20;
+pub const ROUNDS: usize = 20;
 
 /// The generator of a group of calls: a number is found from where it is wanted, so it rests on no answer.
-struct Group(usize);
+pub struct Group(pub usize);
 
 impl Group {
     /// Number `i` for slice `slice`, of 24 bits.
-    fn number(&self, slice: usize, i: usize) -> usize {
+    pub fn number(&self, slice: usize, i: usize) -> usize {
         let after = |x: u64| (x * 1103515245 + 12345) % (1 << 31);
         let squared = |x: u64| x * (2 * x + 1) % (1 << 31);
         let mixed = |x: u64| squared(x) >> 15 | (squared(x) & 0x7fff) << 16;
@@ -21,21 +21,21 @@ impl Group {
         (after(mixed(after(mixed(after(start % (1 << 31)))))) >> 7) as usize
     }
 
-    fn below(&self, i: usize, limit: usize) -> usize {
+    pub fn below(&self, i: usize, limit: usize) -> usize {
         self.number(0, i).checked_rem(limit).unwrap_or(0)
     }
 
-    fn one_in(&self, i: usize, cases: usize) -> bool {
+    pub fn one_in(&self, i: usize, cases: usize) -> bool {
         self.below(i, cases) == 0
     }
 
     /// A set from 0 to 13.
-    fn set(&self, i: usize) -> usize {
+    pub fn set(&self, i: usize) -> usize {
         self.below(i, 14)
     }
 
     /// Which length of a call with so many slices is changed: one more or one less (1 to 19), or an empty slice (20 and on).
-    fn change(&self, i: usize, slices: usize) -> usize {
+    pub fn change(&self, i: usize, slices: usize) -> usize {
         match self.below(i, 60) {
             change @ 0..20 if change <= 2 * slices => change,
             change @ 20.. if change < 20 + slices => change,
@@ -45,34 +45,6 @@ impl Group {
 
     fn bytes(&self, slice: usize, length: usize) -> Vec<u8> {
         (0..length).map(|i| self.number(slice, i) as u8).collect()
-    }
-
-    /// Residues; seldom one of the first `count` is q, or up to two more.
-    fn residues(&self, slice: usize, length: usize, count: usize, q: u64) -> Vec<u32> {
-        let mut values: Vec<u32> = (0..length).map(|i| (self.number(slice, i) as u64 % q) as u32).collect();
-        self.put_large(&mut values[..count], slice + 20, q);
-        values
-    }
-
-    fn put_large(&self, values: &mut [u32], i: usize, q: u64) {
-        let more = self.below(i, 24);
-        if more < 3 {
-            values[self.below(i + 100, values.len())] = q as u32 + more as u32;
-        }
-    }
-
-    /// Signed numbers of at most a size, with another in place of 0.
-    fn signed(&self, slice: usize, length: usize, size: u32, zero: i32) -> Vec<i32> {
-        let around = |i| (self.number(slice, i) % (2 * size as usize + 1)) as i32 - size as i32;
-        (0..length).map(|i| if around(i) == 0 { zero } else { around(i) }).collect()
-    }
-
-    /// Seldom puts a number at or over a bound, or 0, at any place.
-    fn put_around(&self, values: &mut [i32], i: usize, size: u32) {
-        let size = size as i32;
-        if let Some(&value) = [size, -size, size + 1, -size - 1, 0].get(self.below(i, 40)) {
-            values[self.below(i + 100, values.len())] = value;
-        }
     }
 
     /// Damages bytes by kind: all of them, a number at a place, three bytes, one bit, or nothing.
@@ -126,42 +98,6 @@ fn drawn(group: &Group, mut bytes: Vec<u8>) -> String {
     let enough = s.multipliers() * s.multiplier_bytes() + s.multipliers() / 8;
     let case = [lent(9, enough, 500), group.below(10, s.multipliers()), wanted(11)];
     text + &draws::multipliers_of(&bytes, &mut out, number, case)
-}
-
-fn middle_products(group: &Group) -> String {
-    let number = group.set(0);
-    let s = set(number).or(set(0)).unwrap();
-    let size = s.sizes[2];
-    let n = match group.below(1, 24) {
-        kind if kind < 3 => 4095 + kind,
-        _ => group.below(2, size),
-    };
-    let results = if group.one_in(3, 4) { 1 } else { group.below(4, size / 2) };
-    let [m, work] = changed([(n + results).saturating_sub(1), size], group.change(5, 2));
-    let (a, b) = (group.residues(1, 4097, 400, s.q), group.residues(2, 6000, 400, s.q));
-    let run = middle::Run { number, size, a, b };
-    run.line("plain", [n, m, results], None) + &run.transformed([n, m, results], work)
-}
-
-fn key_sealing_reading(group: &Group) -> String {
-    let number = group.set(0);
-    let p = set(number).or(set(0)).unwrap();
-    let row = numbers::Row { number, s: p };
-    let (secret, count, multipliers) = (p.n + p.d + p.k - 1, p.t * (p.d + p.k), p.multipliers());
-    let (a, s) = (group.residues(1, 16385, p.t * p.n, p.q), group.residues(2, 3327, secret, p.q));
-    let mut e = group.signed(3, 10233, p.eta, 0);
-    group.put_around(&mut e[..count], 30, p.eta);
-    let (key, mut b) = row.key_of(group.change(6, 4), &a, &s, &e);
-    group.put_large(&mut b[..count], 35, p.q);
-    let mut r = group.signed(4, 8193, 1 << p.b2, 1);
-    r[..p.first_bound].copy_from_slice(&group.signed(5, p.first_bound, 1 << p.b1, 1));
-    group.put_around(&mut r[..multipliers], 31, 1 << p.b1);
-    group.put_around(&mut r[..multipliers], 32, 1 << p.b2);
-    let message = group.residues(6, 257, p.d, 2);
-    let (sealing, [mut c1, mut c2]) = row.sealing_of(group.change(7, 6), &a, &b, &r, &message);
-    group.put_large(&mut c1[..p.n + p.k], 33, p.q);
-    group.put_large(&mut c2[..p.d], 34, p.q);
-    key + &sealing + &row.reading_of(group.change(8, 4), &c1, &c2, &s)
 }
 
 /// Key, sealing and opening in one scheme, then all steps in one call.
@@ -221,10 +157,6 @@ pub fn bytes() -> String {
         let bytes = Group(first).bytes(1, 65537);
         hashes(&Group(first), &bytes) + &drawn(&Group(first + 1), bytes)
     })
-}
-
-pub fn arithmetic() -> String {
-    rounds(|first| middle_products(&Group(first + 2)) + &key_sealing_reading(&Group(first + 3)))
 }
 
 pub fn scheme() -> String {

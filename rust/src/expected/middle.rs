@@ -1,107 +1,91 @@
-//! What run_arithmetic prints of the middle products.
+//! The middle products that run_arithmetic makes.
 
-use super::report::{answer, number_sum, residues};
-use crate::arithmetic::{middle_product_call, Lengths};
+use super::arithmetic::{Arithmetic, Put, A, B};
 use crate::parameters::set;
 
 const MOST: usize = 4097;
 const NONE: usize = 5000;
 
-/// Residues, but for the modulus at one place and the largest number two places further on.
-fn filled(start: u64, q: u64, place: usize) -> Vec<u32> {
-    let mut values = residues(MOST, start, q);
-    for (place, value) in [(place, q as u32), (place + 2, u32::MAX)] {
-        if place < MOST {
-            values[place] = value;
-        }
-    }
-    values
+/// The products of one set; past the last set, with the numbers of set 0.
+struct Products<'a> {
+    run: &'a mut Arithmetic,
+    number: usize,
+    q: u64,
+    size: usize,
 }
 
-/// The slices of one set and what the calls on them print.
-pub struct Run {
-    pub number: usize,
-    pub size: usize,
-    pub a: Vec<u32>,
-    pub b: Vec<u32>,
-}
-
-impl Run {
-    fn new(number: usize, starts: [u64; 2], places: [usize; 2]) -> Self {
-        let s = set(number).or(set(0)).unwrap();
-        let [a, b] = [0, 1].map(|i| filled(starts[i], s.q, places[i]));
-        Run { number, size: s.sizes[2], a, b }
+impl Products<'_> {
+    fn fill(&mut self, starts: [u64; 2]) {
+        self.run.residues(A, MOST, starts[0], self.q);
+        self.run.residues(B, MOST, starts[1], self.q);
     }
 
-    pub fn line(&self, name: &str, [n, m, results]: [usize; 3], lent: Option<usize>) -> String {
-        let lengths = Lengths { results, work: lent };
-        let given = middle_product_call(set(self.number), &self.a[..n], &self.b[..m], lengths);
-        let mut out = given.product.clone().unwrap_or_default();
-        out.resize(MOST, 7);
-        let mut line = format!("{name} {} {n} {m} {results}", self.number);
-        if let Some(lent) = lent {
-            line += &format!(" {lent}");
-        }
-        line += &format!(" {} {}", answer(&given.product), number_sum(&out));
-        if let Some(lent) = lent {
-            let mut work = vec![if given.cleared { 0 } else { 7 }; lent];
-            work.resize(MOST, 7);
-            line += &format!(" {}", number_sum(&work));
-        }
-        line + "\n"
+    fn transformed(&mut self, lengths: [usize; 3], lent: usize) {
+        self.run.transformed(self.number, lengths, lent);
     }
 
-    pub fn transformed(&self, lengths: [usize; 3], lent: usize) -> String {
-        self.line("transformed", lengths, Some(lent))
+    fn both(&mut self, lengths: [usize; 3]) {
+        self.run.plain(self.number, lengths);
+        self.transformed(lengths, self.size);
     }
 
-    fn both(&self, lengths: [usize; 3]) -> String {
-        self.line("plain", lengths, None) + &self.transformed(lengths, self.size)
-    }
-
-    fn all_lengths(&self) -> String {
+    fn all_lengths(&mut self) {
         let short = [[1, 1, 1], [1, 2, 2], [2, 2, 1], [2, 3, 2]];
         let long_a = [4095, 4096, 4097].map(|n| [n, n, 1]);
         let long_b = [4095, 4096, 4097].map(|n| [1, n, n]);
         let middle = [4095, 4096, 4097].map(|n| [2048, n, n - 2047]);
         let misfits = [[4097, 4096, 1], [1, 4096, 4097], [0, 0, 1], [0, 3, 4], [1, 0, 0], [4, 3, 0]];
         let one_off = [[3, 4, 3], [3, 6, 3], [2, 5, 3], [4, 5, 3], [3, 5, 2], [3, 5, 4]];
-        let cases = short.iter().chain(&long_a).chain(&long_b).chain(&middle).chain(&misfits).chain(&one_off);
-        cases.map(|&case| self.both(case)).collect()
+        for &case in short.iter().chain(&long_a).chain(&long_b).chain(&middle).chain(&misfits).chain(&one_off) {
+            self.both(case);
+        }
     }
 
-    fn around_size(&self) -> String {
-        let n = self.size / 2;
-        let b = [[n, self.size, self.size - n + 1], [n, self.size + 1, self.size - n + 2]].map(|case| self.both(case));
-        let work = [self.size - 1, self.size + 1].map(|lent| self.transformed([2, 3, 2], lent));
-        b.concat() + &work.concat() + &self.transformed([1, self.size + 1, self.size + 1], self.size + 1)
+    fn around_size(&mut self) {
+        let (size, n) = (self.size, self.size / 2);
+        self.both([n, size, size - n + 1]);
+        self.both([n, size + 1, size - n + 2]);
+        self.transformed([2, 3, 2], size - 1);
+        self.transformed([2, 3, 2], size + 1);
+        self.transformed([1, size + 1, size + 1], size + 1);
+    }
+
+    /// A product whose a and b hold the modulus at one place and the largest number two places further on.
+    fn wrong(&mut self, lengths: [usize; 3], places: [usize; 2]) {
+        self.fill([3, 4]);
+        for (from, place) in [A, B].into_iter().zip(places) {
+            for (place, x) in [(place, self.q as u32), (place + 2, u32::MAX)] {
+                if place < MOST {
+                    self.run.put(Put::Number(from + place, x));
+                }
+            }
+        }
+        self.both(lengths);
+    }
+
+    fn all_wrong(&mut self) {
+        self.wrong([2, 3, 2], [0, NONE]);
+        self.wrong([2, 3, 2], [1, NONE]);
+        self.wrong([2, 3, 2], [NONE, 0]);
+        self.wrong([2, 3, 2], [NONE, 2]);
+        self.wrong([2, 3, 2], [1, 0]);
+        self.wrong([2, 3, 2], [2, 3]);
+        self.wrong([3, 4, 2], [0, 0]);
+        self.wrong([3, 4, 2], [1, NONE]);
+        self.wrong([2, 4, 2], [0, 0]);
+        self.wrong([0, 1, 2], [0, 0]);
+        self.wrong([4096, 4096, 1], [4095, NONE]);
+        self.wrong([4096, 4096, 1], [NONE, 4095]);
     }
 }
 
-/// Slices with numbers that are no residues, from a place of a and a place of b on.
-fn all_wrong(number: usize) -> String {
-    let cases = [
-        ([2, 3, 2], [0, NONE]),
-        ([2, 3, 2], [1, NONE]),
-        ([2, 3, 2], [NONE, 0]),
-        ([2, 3, 2], [NONE, 2]),
-        ([2, 3, 2], [1, 0]),
-        ([2, 3, 2], [2, 3]),
-        ([3, 4, 2], [0, 0]),
-        ([3, 4, 2], [1, NONE]),
-        ([2, 4, 2], [0, 0]),
-        ([0, 1, 2], [0, 0]),
-        ([4096, 4096, 1], [4095, NONE]),
-        ([4096, 4096, 1], [NONE, 4095]),
-    ];
-    cases.map(|(lengths, places)| Run::new(number, [3, 4], places).both(lengths)).concat()
-}
-
-pub fn text() -> String {
-    (0..14)
-        .map(|number| {
-            let run = Run::new(number, [1, 2], [NONE; 2]);
-            run.all_lengths() + &run.around_size() + &all_wrong(number)
-        })
-        .collect()
+pub fn run(run: &mut Arithmetic) {
+    for number in 0..14 {
+        let s = set(number).or(set(0)).unwrap();
+        let mut products = Products { run, number, q: s.q, size: s.sizes[2] };
+        products.fill([1, 2]);
+        products.all_lengths();
+        products.around_size();
+        products.all_wrong();
+    }
 }

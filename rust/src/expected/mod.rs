@@ -1,7 +1,9 @@
-//! What the programs of crates/run_* print, made by this implementation.
+//! What the programs of crates/run_* read and print, made by this implementation.
 
+pub mod arithmetic;
 pub mod cases;
 pub mod damage;
+pub mod damage_arithmetic;
 pub mod draws;
 pub mod known;
 pub mod middle;

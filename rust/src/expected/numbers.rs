@@ -1,8 +1,8 @@
-//! What run_arithmetic prints of the calls on numbers.
+//! The calls on numbers that run_arithmetic makes.
 
-use super::report::{answer, changed, number_sum, residues};
+use super::arithmetic::{Arithmetic, Put, A, B, C1, C2, E, MESSAGE, R, S};
+use super::report::changed;
 use crate::draws::multiplier_bound;
-use crate::numbers::{key, reading, sealing};
 use crate::parameters::{set, Set};
 
 const BENCH_ERRORS: [i32; 3] = [1, 0, -1];
@@ -10,187 +10,155 @@ const BENCH_MULTIPLIERS: [i32; 2] = [1, -2];
 const ERRORS: [i32; 16] = [4, 0, -4, 1, -1, 2, -3, 0, 3, -2, 1, 0, -1, 4, -4, 2];
 const MULTIPLIERS: [i32; 16] = [16, -16, 1, -1, 5, -9, 12, -3, 2, -2, 7, -11, 15, -6, 4, -8];
 
-/// One set (past the last set, the numbers of set 0), and what each call takes. Each vector of inputs has one number more than the set's length.
+/// One set; past the last set, the numbers of set 0.
 pub struct Row {
     pub number: usize,
     pub s: Set,
 }
 
-/// A case: which length is changed (0: none) and which number is wrong (0: none).
-type Case = (usize, usize);
-
-/// One length changed after the other, one wrong number after the other, then both at once.
-fn cases(lengths: usize, wrongs: usize) -> impl Iterator<Item = Case> {
-    (1..=lengths).map(|change| (change, 0)).chain((1..=wrongs).map(|wrong| (0, wrong))).chain([(1, 1)])
-}
-
-/// A slice of 7s, with what a call made in front of it.
-fn over_sevens(mut made: Vec<u32>, length: usize) -> Vec<u32> {
-    made.resize(length, 7);
-    made
-}
-
-fn repeated(bench: bool, figures: &[i32], numbers: &[i32], length: usize) -> Vec<i32> {
-    let mut out: Vec<i32> = (if bench { figures } else { numbers }).iter().cycle().take(length).copied().collect();
-    out.push(1);
-    out
+/// One length changed after the other, one wrong number after the other, then both at once, then nothing.
+fn cases(lengths: usize, wrongs: usize) -> impl Iterator<Item = (usize, usize)> {
+    (1..=lengths).map(|change| (change, 0)).chain((1..=wrongs).map(|wrong| (0, wrong))).chain([(1, 1), (0, 0)])
 }
 
 impl Row {
+    pub fn new(number: usize) -> Self {
+        Row { number, s: set(number).or(set(0)).unwrap() }
+    }
+
     fn is_bench(&self) -> bool {
         self.s.number == 0
     }
 
-    fn a_numbers(&self) -> usize {
+    pub fn a_numbers(&self) -> usize {
         self.s.t * self.s.n
     }
 
-    fn secret_numbers(&self) -> usize {
+    pub fn secret_numbers(&self) -> usize {
         self.s.n + self.s.d + self.s.k - 1
     }
 
-    fn key_numbers(&self) -> usize {
+    pub fn key_numbers(&self) -> usize {
         self.s.t * (self.s.d + self.s.k)
     }
 
-    fn figures_or(&self, figures: &[u32], length: usize, start: u64, q: u64) -> Vec<u32> {
-        let mut out = residues(length + 1, start, q);
-        if self.is_bench() {
-            out[..length].copy_from_slice(figures);
+    pub fn sealed_numbers(&self) -> usize {
+        self.s.n + self.s.k
+    }
+
+    pub fn key(&self, run: &mut Arithmetic, change: usize) {
+        let lengths = [self.a_numbers(), self.secret_numbers(), self.key_numbers(), self.key_numbers()];
+        run.key(self.number, changed(lengths, change));
+    }
+
+    pub fn sealing(&self, run: &mut Arithmetic, change: usize) {
+        let lengths = [self.a_numbers(), self.key_numbers(), self.s.multipliers(), self.s.d, self.sealed_numbers(), self.s.d];
+        run.sealing(self.number, changed(lengths, change));
+    }
+
+    pub fn reading(&self, run: &mut Arithmetic, change: usize) {
+        run.reading(self.number, changed([self.sealed_numbers(), self.s.d, self.secret_numbers(), self.s.d], change));
+    }
+
+    /// Residues, or the bench figures.
+    fn fill(&self, run: &mut Arithmetic, place: usize, figures: &[u32], length: usize, start: u64, q: u64) {
+        run.residues(place, length + 1, start, q);
+        for (i, &x) in figures.iter().enumerate().filter(|_| self.is_bench()) {
+            run.put(Put::Number(place + i, x));
         }
-        out
     }
 
-    fn a(&self) -> Vec<u32> {
-        self.figures_or(&[3, 5], self.a_numbers(), 1, self.s.q)
+    /// Fills the stores; of the multipliers, one is at the first bound and one at the second.
+    fn fill_all(&self, run: &mut Arithmetic) {
+        self.fill(run, A, &[3, 5], self.a_numbers(), 1, self.s.q);
+        self.fill(run, S, &[1, 2, 3, 4], self.secret_numbers(), 2, self.s.q);
+        self.fill(run, MESSAGE, &[1, 0], self.s.d, 3, 2);
+        let (errors, multipliers) = if self.is_bench() { (&BENCH_ERRORS[..], &BENCH_MULTIPLIERS[..]) } else { (&ERRORS[..], &MULTIPLIERS[..]) };
+        run.repeat(E, self.key_numbers() + 1, errors);
+        run.repeat(R, self.s.multipliers() + 1, multipliers);
+        for put in self.around_bounds([0, 0], [-1, 1]) {
+            run.put(put);
+        }
     }
 
-    fn secret(&self) -> Vec<u32> {
-        self.figures_or(&[1, 2, 3, 4], self.secret_numbers(), 2, self.s.q)
+    /// A multiplier at the last position of the first bound and one at the first position of the second, so much above the bound and of these signs.
+    fn around_bounds(&self, above: [i32; 2], signs: [i32; 2]) -> [Put; 2] {
+        let last = self.s.first_bound - 1;
+        let put = |i| Put::Signed(R + last + i, signs[i] * (multiplier_bound(&self.s, last + i) as i32 + above[i]));
+        [put(0), put(1)]
     }
 
-    fn message(&self) -> Vec<u32> {
-        self.figures_or(&[1, 0], self.s.d, 3, 2)
-    }
-
-    fn errors(&self) -> Vec<i32> {
-        repeated(self.is_bench(), &BENCH_ERRORS, &ERRORS, self.key_numbers())
-    }
-
-    /// Multipliers at both bounds with one sign, or with the other (10), or with a wrong one.
-    fn multipliers(&self, wrong: usize) -> Vec<i32> {
-        let (count, position) = (self.s.multipliers(), self.s.first_bound);
-        let mut r = repeated(self.is_bench(), &BENCH_MULTIPLIERS, &MULTIPLIERS, count);
-        let bound = |position| multiplier_bound(&self.s, position) as i32;
-        let (first, second) = (bound(position - 1), bound(position));
-        r[position - 1] = match wrong {
-            3 => first + 1,
-            4 => -first - 1,
-            10 => first,
-            _ => -first,
-        };
-        r[position] = match wrong {
-            5 => second + 1,
-            6 => -second - 1,
-            10 => -second,
-            _ => second,
-        };
+    fn wrong_in_key(&self, wrong: usize) -> Vec<Put> {
+        let (q, last_error, eta) = (self.s.q as u32, E + self.key_numbers() - 1, self.s.eta as i32);
         match wrong {
-            7 => r[0] = 0,
-            8 => r[count - 1] = 0,
-            _ => {}
+            1 => vec![Put::Number(A, q)],
+            2 => vec![Put::Number(A + self.a_numbers() - 1, q)],
+            3 => vec![Put::Number(S + self.secret_numbers() - 1, q)],
+            4 => vec![Put::Signed(last_error, eta + 1)],
+            5 => vec![Put::Signed(last_error, -eta - 1)],
+            _ => vec![],
         }
-        r
     }
 
-    /// The line of a key, and what the call was lent for b.
-    pub fn key_of(&self, change: usize, a: &[u32], s: &[u32], e: &[i32]) -> (String, Vec<u32>) {
-        let numbers = self.key_numbers();
-        let [n, m, o, results] = changed([self.a_numbers(), self.secret_numbers(), numbers, numbers], change);
-        let given = key(set(self.number), &a[..n], &s[..m], &e[..o], results);
-        let answer = answer(&given);
-        let b = over_sevens(given.unwrap_or_default(), 10233);
-        (format!("key {} {n} {m} {o} {results} {answer} {}\n", self.number, number_sum(&b)), b)
-    }
-
-    fn key(&self, (change, wrong): Case) -> (String, Vec<u32>) {
-        let (mut a, mut s, mut e, q) = (self.a(), self.secret(), self.errors(), self.s.q as u32);
+    /// The last of these is right: multipliers at both bounds with the other signs.
+    fn wrong_in_sealing(&self, wrong: usize) -> Vec<Put> {
+        let q = self.s.q as u32;
         match wrong {
-            1 => a[0] = q,
-            2 => a[self.a_numbers() - 1] = q,
-            3 => s[self.secret_numbers() - 1] = q,
-            4 => e[self.key_numbers() - 1] = self.s.eta as i32 + 1,
-            5 => e[self.key_numbers() - 1] = -(self.s.eta as i32) - 1,
-            _ => {}
+            1 => vec![Put::Number(A + self.a_numbers() - 1, q)],
+            2 => vec![Put::Number(B + self.key_numbers() - 1, q)],
+            3 => self.around_bounds([1, 0], [1, 1]).to_vec(),
+            4 => self.around_bounds([1, 0], [-1, 1]).to_vec(),
+            5 => self.around_bounds([0, 1], [-1, 1]).to_vec(),
+            6 => self.around_bounds([0, 1], [-1, -1]).to_vec(),
+            7 => vec![Put::Signed(R, 0)],
+            8 => vec![Put::Signed(R + self.s.multipliers() - 1, 0)],
+            9 => vec![Put::Number(MESSAGE + self.s.d - 1, 2)],
+            10 => self.around_bounds([0, 0], [1, -1]).to_vec(),
+            _ => vec![],
         }
-        self.key_of(change, &a, &s, &e)
     }
 
-    /// The line of a sealing, and what the call was lent for c1 and c2.
-    pub fn sealing_of(&self, change: usize, a: &[u32], b: &[u32], r: &[i32], m: &[u32]) -> (String, [Vec<u32>; 2]) {
-        let lengths = [self.a_numbers(), self.key_numbers(), self.s.multipliers(), self.s.d, self.s.n + self.s.k, self.s.d];
-        let lent = changed(lengths, change);
-        let given = sealing(set(self.number), &a[..lent[0]], &b[..lent[1]], &r[..lent[2]], &m[..lent[3]], [lent[4], lent[5]]);
-        let answer = answer(&given);
-        let (c1, c2) = given.unwrap_or_default();
-        let (c1, c2) = (over_sevens(c1, 3072), over_sevens(c2, 257));
-        let lent = lent.map(|length| length.to_string()).join(" ");
-        let line = format!("sealing {} {lent} {answer} {} {}\n", self.number, number_sum(&c1), number_sum(&c2));
-        (line, [c1, c2])
-    }
-
-    fn sealing(&self, b: &[u32], (change, wrong): Case) -> (String, [Vec<u32>; 2]) {
-        let (mut a, mut b, r, mut m, q) = (self.a(), b.to_vec(), self.multipliers(wrong), self.message(), self.s.q as u32);
+    fn wrong_in_reading(&self, wrong: usize) -> Vec<Put> {
+        let q = self.s.q as u32;
         match wrong {
-            1 => a[self.a_numbers() - 1] = q,
-            2 => b[self.key_numbers() - 1] = q,
-            9 => m[self.s.d - 1] = 2,
-            _ => {}
+            1 => vec![Put::Number(C1 + self.sealed_numbers() - 1, q)],
+            2 => vec![Put::Number(C2 + self.s.d - 1, q)],
+            3 => vec![Put::Number(S + self.secret_numbers() - 1, q)],
+            _ => vec![],
         }
-        self.sealing_of(change, &a, &b, &r, &m)
-    }
-
-    pub fn reading_of(&self, change: usize, c1: &[u32], c2: &[u32], s: &[u32]) -> String {
-        let lengths = [self.s.n + self.s.k, self.s.d, self.secret_numbers(), self.s.d];
-        let [n, m, o, results] = changed(lengths, change);
-        let given = reading(set(self.number), &c1[..n], &c2[..m], &s[..o], results);
-        let answer = answer(&given);
-        let bits = over_sevens(given.unwrap_or_default(), 257);
-        format!("reading {} {n} {m} {o} {results} {answer} {}\n", self.number, number_sum(&bits))
-    }
-
-    fn reading(&self, [c1, c2]: &[Vec<u32>; 2], (change, wrong): Case) -> String {
-        let (mut c1, mut c2, mut s, q) = (c1.clone(), c2.clone(), self.secret(), self.s.q as u32);
-        match wrong {
-            1 => c1[self.s.n + self.s.k - 1] = q,
-            2 => c2[self.s.d - 1] = q,
-            3 => s[self.secret_numbers() - 1] = q,
-            _ => {}
-        }
-        self.reading_of(change, &c1, &c2, &s)
     }
 
     /// Reads numbers at both ties of the rounding, 2w = h and 2w = 3h, and beside them; c1 is 0, so that w is c2.
-    fn ties(&self) -> String {
+    fn ties(&self, run: &mut Arithmetic) {
         assert!(self.s.half() % 2 == 0);
         let (low, high) = (self.s.half() as u32 / 2, self.s.half() as u32 / 2 * 3);
-        let mut c2 = vec![low, high, low - 1, low + 1, high - 1, high + 1];
-        c2.resize(257, 0);
-        format!("tie {}", self.reading(&[vec![0; 3072], c2], (0, 0)))
+        run.residues(C1, 3072, 0, 1);
+        run.residues(C2, 257, 0, 1);
+        for (i, x) in [low, high, low - 1, low + 1, high - 1, high + 1].into_iter().enumerate() {
+            run.put(Put::Number(C2 + i, x));
+        }
+        run.script.text("tie ");
+        self.reading(run, 0);
     }
 
-    fn text(&self) -> String {
-        let mut text: String = cases(8, 5).map(|case| self.key(case).0).collect();
-        let (line, b) = self.key((0, 0));
-        text += &line;
-        text += &cases(12, 10).map(|case| self.sealing(&b, case).0).collect::<String>();
-        let (line, sealed) = self.sealing(&b, (0, 0));
-        text += &line;
-        text += &cases(8, 3).chain([(0, 0)]).map(|case| self.reading(&sealed, case)).collect::<String>();
-        text + &self.ties()
+    /// Keys, the last of which is right; sealings with it, of which the last is right too; readings of that, and the ties.
+    fn run(&self, run: &mut Arithmetic) {
+        self.fill_all(run);
+        for (change, wrong) in cases(8, 5) {
+            run.with(&self.wrong_in_key(wrong), |run| self.key(run, change));
+        }
+        for (change, wrong) in cases(12, 10) {
+            run.with(&self.wrong_in_sealing(wrong), |run| self.sealing(run, change));
+        }
+        for (change, wrong) in cases(8, 3) {
+            run.with(&self.wrong_in_reading(wrong), |run| self.reading(run, change));
+        }
+        self.ties(run);
     }
 }
 
-pub fn text() -> String {
-    (0..14).map(|number| Row { number, s: set(number).or(set(0)).unwrap() }.text()).collect()
+pub fn run(run: &mut Arithmetic) {
+    for number in 0..14 {
+        Row::new(number).run(run);
+    }
 }

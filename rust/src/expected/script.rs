@@ -20,4 +20,12 @@ impl Script {
     pub fn print(&mut self, text: &str) {
         self.text += text;
     }
+
+    /// A text that is printed as it is.
+    pub fn text(&mut self, text: &str) {
+        for bytes in text.as_bytes().chunks(15) {
+            self.command(&[&[0], bytes.iter().map(|&byte| byte as usize).collect::<Vec<_>>().as_slice()].concat());
+        }
+        self.print(text);
+    }
 }

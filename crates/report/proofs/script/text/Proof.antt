@@ -1,24 +1,29 @@
--- `products::all_lengths` ends.
+-- `report::script::text` ends.
 -- Assumes nothing.
 use Prim.Native.Nat.{_-_, _≤_}
 use borrow.Author.Needs.{needs}
-use Rattle.run_arithmetic.proofs.products.all_lengths.Statement.{statement}
-use Rattle.run_arithmetic.proofs.products.all_lengths.Tie as tie
+use Rattle.report.proofs.script.text.Statement.{statement}
+use Rattle.report.proofs.script.text.Tie as tie
 
 abbrev Inv-loop : tie.InvT-loop
-Inv-loop set a b i₀ i = i ≤ 25
+Inv-loop line i₀ i = i ≤ 16
 
 abbrev μ-loop : tie.MeasureT-loop
-μ-loop set a b i₀ i = 25 - i
+μ-loop line i₀ i = 16 - i
 
-pub all-lengths-spec : {M : Type 1} → statement M
-all-lengths-spec =
+pub text-spec : {M : Type 1} → statement M
+text-spec =
     tie.close
     (tie.spec
     Inv-loop
     μ-loop
     (λ c. search needs)
     (λ c. search needs)
+    (λ c. search needs)
+    (λ c. search needs)
+    (λ c. search needs)
+    (λ c. search needs)
+    (λ c κs. search needs)
     (λ c. search needs)
     (λ c κs. search needs)
     (λ c. search needs)

@@ -1,22 +1,23 @@
--- `products::all_wrong` ends.
+-- `report::script::operands` ends.
 -- Assumes nothing.
 use Prim.Native.Nat.{_-_, _≤_}
 use borrow.Author.Needs.{needs}
-use Rattle.run_arithmetic.proofs.products.all_wrong.Statement.{statement}
-use Rattle.run_arithmetic.proofs.products.all_wrong.Tie as tie
+use Rattle.report.proofs.script.operands.Statement.{statement}
+use Rattle.report.proofs.script.operands.Tie as tie
 
 abbrev Inv-loop : tie.InvT-loop
-Inv-loop set i₀ i = i ≤ 12
+Inv-loop count line i₀ i = i ≤ 16
 
 abbrev μ-loop : tie.MeasureT-loop
-μ-loop set i₀ i = 12 - i
+μ-loop count line i₀ i = 16 - i
 
-pub all-wrong-spec : {M : Type 1} → statement M
-all-wrong-spec =
+pub operands-spec : {M : Type 1} → statement M
+operands-spec =
     tie.close
     (tie.spec
     Inv-loop
     μ-loop
+    (λ c. search needs)
     (λ c. search needs)
     (λ c. search needs)
     (λ c. search needs)

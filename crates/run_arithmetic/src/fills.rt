@@ -1,0 +1,81 @@
+// Commands that fill the stores. Each names a place and, where it fills a part, how many numbers that has.
+use report::script;
+
+// Residues from the generator: where it goes on from, and the modulus.
+pub fn residues(line: [usize; 16], numbers: &mut [u32]) {
+    let q = script::word(line[4]);
+    if 0 < q {
+        report::fill_residues(
+            report::numbers_mut(numbers, line[1], line[2]),
+            (line[3] % 1000) as u64,
+            q,
+        );
+    }
+}
+
+// Random residues: group, slice and modulus.
+pub fn random_residues(line: [usize; 16], numbers: &mut [u32]) {
+    report::random::fill_residues(
+        report::numbers_mut(numbers, line[1], line[2]),
+        line[3],
+        line[4],
+        script::word(line[5]),
+    );
+}
+
+// One number at a place.
+pub fn put(line: [usize; 16], numbers: &mut [u32]) {
+    let place = line[1];
+    if place < numbers.len() {
+        numbers[place] = script::word(line[2]);
+    }
+}
+
+// One signed number at a place: its size of at most 4,095, and whether it is below 0.
+pub fn put_signed(line: [usize; 16], signed: &mut [i32]) {
+    let place = line[1];
+    if place < signed.len() {
+        signed[place] = if line[3] == 0 {
+            (line[2] % 4096) as i32
+        } else {
+            report::random::negative(line[2])
+        };
+    }
+}
+
+// Repeats the first numbers of a part, so many of them, to its end.
+fn repeat(values: &mut [i32], period: usize) {
+    let mut i = period;
+    while i < values.len() {
+        values[i] = values[i - period];
+        i += 1;
+    }
+}
+
+// The same of a part of the signed numbers.
+pub fn repeat_signed(line: [usize; 16], signed: &mut [i32]) {
+    repeat(report::signed_mut(signed, line[1], line[2]), line[3]);
+}
+
+// Random signed numbers: group, slice, their largest size, and what stands for 0.
+pub fn random_signed(line: [usize; 16], signed: &mut [i32]) {
+    report::random::fill_signed(
+        report::signed_mut(signed, line[1], line[2]),
+        line[3],
+        line[4],
+        line[5],
+        (line[6] % 4096) as i32,
+    );
+}
+
+// A copy of others, as many as there are.
+pub fn copy(values: &mut [u32], others: &[u32]) {
+    let mut i: usize = 0;
+    while i < values.len() {
+        if others.len() <= i {
+            return;
+        }
+        values[i] = others[i];
+        i += 1;
+    }
+}
