@@ -2,7 +2,7 @@
 use report::script;
 
 // Residues from the generator: where it goes on from, and the modulus.
-pub fn residues(line: [usize; 16], numbers: &mut [u32]) {
+fn residues(line: [usize; 16], numbers: &mut [u32]) {
     let q = script::word(line[4]);
     if 0 < q {
         report::fill_residues(
@@ -14,7 +14,7 @@ pub fn residues(line: [usize; 16], numbers: &mut [u32]) {
 }
 
 // Random residues: group, slice and modulus.
-pub fn random_residues(line: [usize; 16], numbers: &mut [u32]) {
+fn random_residues(line: [usize; 16], numbers: &mut [u32]) {
     report::random::fill_residues(
         report::numbers_mut(numbers, line[1], line[2]),
         line[3],
@@ -24,7 +24,7 @@ pub fn random_residues(line: [usize; 16], numbers: &mut [u32]) {
 }
 
 // One number at a place.
-pub fn put(line: [usize; 16], numbers: &mut [u32]) {
+fn put(line: [usize; 16], numbers: &mut [u32]) {
     let place = line[1];
     if place < numbers.len() {
         numbers[place] = script::word(line[2]);
@@ -32,7 +32,7 @@ pub fn put(line: [usize; 16], numbers: &mut [u32]) {
 }
 
 // One signed number at a place: its size of at most 4,095, and whether it is below 0.
-pub fn put_signed(line: [usize; 16], signed: &mut [i32]) {
+fn put_signed(line: [usize; 16], signed: &mut [i32]) {
     let place = line[1];
     if place < signed.len() {
         signed[place] = if line[3] == 0 {
@@ -53,12 +53,12 @@ fn repeat(values: &mut [i32], period: usize) {
 }
 
 // The same of a part of the signed numbers.
-pub fn repeat_signed(line: [usize; 16], signed: &mut [i32]) {
+fn repeat_signed(line: [usize; 16], signed: &mut [i32]) {
     repeat(report::signed_mut(signed, line[1], line[2]), line[3]);
 }
 
 // Random signed numbers: group, slice, their largest size, and what stands for 0.
-pub fn random_signed(line: [usize; 16], signed: &mut [i32]) {
+fn random_signed(line: [usize; 16], signed: &mut [i32]) {
     report::random::fill_signed(
         report::signed_mut(signed, line[1], line[2]),
         line[3],
@@ -77,5 +77,24 @@ pub fn copy(values: &mut [u32], others: &[u32]) {
         }
         values[i] = others[i];
         i += 1;
+    }
+}
+
+// Prints a text, or fills a part of the numbers.
+pub fn step(line: [usize; 16], numbers: &mut [u32]) {
+    match line[0] {
+        0 => script::text(line),
+        1 => residues(line, numbers),
+        2 => random_residues(line, numbers),
+        _ => put(line, numbers),
+    }
+}
+
+// Fills a part of the signed numbers.
+pub fn signed_step(line: [usize; 16], signed: &mut [i32]) {
+    match line[0] {
+        4 => put_signed(line, signed),
+        5 => repeat_signed(line, signed),
+        _ => random_signed(line, signed),
     }
 }

@@ -1,40 +1,39 @@
 // Runs a script of the arithmetic layer: key, sealing and reading on numbers, the middle products and the transforms. Two stores hold what the calls are
 // given: residues and bits, and signed numbers.
 mod fills;
-mod products;
+mod open;
 mod vectors;
-mod whole;
 
 use libc::STDIN_FILENO;
 
 // Where the calls find polynomials a, a secret, a key, a message and the two parts of what was sealed.
 const A: usize = 0;
+
 const S: usize = 16400;
+
 const B: usize = 19800;
+
 const MESSAGE: usize = 30100;
+
 const C1: usize = 30400;
+
 const C2: usize = 33500;
 
 // Where they find errors and multipliers among the signed numbers.
 const E: usize = 0;
+
 const R: usize = 10300;
+
+// How many numbers there are, which is past every place.
+const END: usize = 33800;
 
 // Runs one line of the script: its first number says what to do.
 fn step(line: [usize; 16], numbers: &mut [u32], signed: &mut [i32]) {
     match line[0] {
-        0 => report::script::text(line),
-        1 => fills::residues(line, numbers),
-        2 => fills::random_residues(line, numbers),
-        3 => fills::put(line, numbers),
-        4 => fills::put_signed(line, signed),
-        5 => fills::repeat_signed(line, signed),
-        6 => fills::random_signed(line, signed),
-        7 => products::plain(line, numbers),
-        8 => products::transformed(line, numbers),
-        9 => whole::key(line, numbers, signed),
-        10 => whole::sealing(line, numbers, signed),
-        11 => whole::reading(line, numbers),
-        _ => vectors::transform(line),
+        0 | 1 | 2 | 3 => fills::step(line, numbers),
+        4 | 5 | 6 => fills::signed_step(line, signed),
+        7 | 8 | 9 | 10 | 11 => open::call(line, numbers, signed),
+        _ => vectors::step(line, numbers),
     }
 }
 

@@ -1,19 +1,49 @@
-// Runs the bytes layer: SHAKE256 and KMAC, the draws over lent bytes, the draws from a seed, and random calls. Standard input holds the seeds of three
-// known cases.
-mod damage;
-mod known;
+// Runs a script of the bytes layer: SHAKE256 and KMAC, the draws over lent bytes and the draws from a seed. Two stores hold the bytes that the calls are
+// given and those that the hashes write.
 mod lent;
 mod seeded;
 mod sponges;
 
 use libc::STDIN_FILENO;
 
+// Fills a part of a store, a place and so many bytes: with a pattern, with one byte, or with the random bytes of a group and a slice.
+fn fill(line: [usize; 16], bytes: &mut [u8]) {
+    let part = report::part_mut(bytes, line[1], line[2]);
+    match line[0] % 3 {
+        1 => report::fill_bytes(part, line[3]),
+        2 => report::repeat(part, &[report::low_byte(line[3])]),
+        _ => report::random::fill(part, line[3], line[4]),
+    }
+}
+
+// Runs one line of the script: its first number says what to do.
+fn step(line: [usize; 16], bytes: &mut [u8], out: &mut [u8]) {
+    match line[0] {
+        0 => report::script::text(line),
+        1 | 2 | 3 => fill(line, bytes),
+        4 | 5 => fill(line, out),
+        6 | 7 | 8 => sponges::step(line, bytes, out),
+        9 => lent::residues(line, bytes),
+        10 | 11 | 12 => lent::small(line, bytes),
+        _ => seeded::step(line, bytes),
+    }
+}
+
+// Runs every line.
+fn run(script: &[u8], bytes: &mut [u8], out: &mut [u8]) {
+    let mut at: usize = 0;
+    while at < script.len() {
+        let line = report::script::line_at(script, at);
+        let values = line.values;
+        step(values, bytes, out);
+        at = line.next;
+    }
+}
+
 fn main() {
-    let mut input = io::buffer();
-    let end = io::read_full(STDIN_FILENO, &mut input);
-    known::run(report::front(&input, end));
-    sponges::run();
-    lent::run();
-    seeded::run();
-    damage::rounds();
+    let mut script = [0u8; 131072];
+    let mut bytes = [0u8; 65537];
+    let mut out = [0u8; 65537];
+    let end = io::read_full(STDIN_FILENO, &mut script);
+    run(report::front(&script, end), &mut bytes, &mut out);
 }

@@ -1,4 +1,8 @@
-// The draws from a seed: every set with two seeds, draws over several blocks, and runs of candidates set aside across the edge of two blocks.
+// The draws from a seed, of 32 bytes of the store, and a draw over two blocks of the store. A line of a draw from a seed has, after the numbers of the case
+// and the place of the seed, which of the numbers drawn are printed and above which a number stands for what it is less than the modulus; where none is,
+// the line of the case is printed.
+use libc::STDOUT_FILENO;
+use report::script;
 use samplers::Advance;
 use samplers::Progress;
 use sets::Parameters;
@@ -20,18 +24,11 @@ fn within(x: usize, least: usize, most: usize) -> usize
 }
 
 // The numbers of a set from 1 to 12, with the rules that the draws ask for.
-pub fn parameters(set: usize) -> Parameters
+fn parameters(set: usize) -> Parameters
     ensures { λ p. ⌜ Rules p × ByteRules p × (0 < p .q) ⌝ }
 {
     let known = within(set, 1, 12);
     sets::parameters_of(known)
-}
-
-// A seed: a pattern that begins with a number.
-fn seed_from(start: usize) -> [u8; 32] {
-    let mut seed = [0u8; 32];
-    report::fill_bytes(&mut seed, start);
-    seed
 }
 
 // Prints the answer of a uniform draw: the counter afterwards, or the refusal.
@@ -49,7 +46,7 @@ fn advance(given: Advance) {
 }
 
 // Draws residues from a seed.
-pub fn residues_into(
+fn residues_into(
     set: usize,
     seed: &[u8],
     size: usize,
@@ -69,44 +66,8 @@ pub fn residues_into(
     )
 }
 
-// The same, and the checksum, which covers the numbers past the results too: they stay as they were.
-fn draw_residues(
-    set: usize,
-    seed: [u8; 32],
-    size: usize,
-    first: u32,
-    wanted: usize,
-    out: &mut [u32],
-)
-    requires { ⌜ length (now out) ≡ 10240 ⌝ }
-{
-    advance(residues_into(set, &seed, size, first, wanted, out));
-    report::number_sum(out);
-}
-
-// The same after the numbers of the case.
-fn residues(set: usize, seed: [u8; 32], size: usize, first: u32, wanted: usize) {
-    let mut out = [7u32; 10240];
-    report::text(b"residues");
-    report::number(set as u64);
-    report::number(size as u64);
-    report::number(first as u64);
-    report::number(wanted as u64);
-    draw_residues(set, seed, size, first, wanted, &mut out);
-    report::end();
-}
-
-// The draws of residues of a set: the secret, a public polynomial twice, and a draw over several short blocks.
-fn all_residues(set: usize, seed: [u8; 32]) {
-    let p = parameters(set);
-    residues(set, seed, p.bytpcs, 0, p.d3);
-    residues(set, seed, p.bytpca, 0, p.n);
-    residues(set, seed, p.bytpca, 300, p.n);
-    residues(set, seed, 384, 5, 1000);
-}
-
 // How many multipliers one sealing of a set has.
-pub fn multiplier_count(p: Parameters) -> usize
+fn multiplier_count(p: Parameters) -> usize
     requires { ⌜ Rules p ⌝ }
     ensures { λ r. ⌜ (r ≡ multiplierCount p) × (r ≤ 10240) ⌝ }
 {
@@ -114,7 +75,7 @@ pub fn multiplier_count(p: Parameters) -> usize
 }
 
 // Draws the errors of one key.
-pub fn errors_into(set: usize, seed: &[u8], counter: u32, out: &mut [u32])
+fn errors_into(set: usize, seed: &[u8], counter: u32, out: &mut [u32])
     requires { ⌜ (length (now seed) ≤ 65536) × (length (now out) ≡ 10240) ⌝ }
 {
     let p = parameters(set);
@@ -122,42 +83,13 @@ pub fn errors_into(set: usize, seed: &[u8], counter: u32, out: &mut [u32])
     samplers::errors_from(p, seed, counter % 100000, &mut out[0..count]);
 }
 
-// The same after the numbers of the case.
-fn errors(set: usize, seed: [u8; 32], counter: u32) {
-    let mut out = [7u32; 10240];
-    report::text(b"errors");
-    report::number(set as u64);
-    report::number(counter as u64);
-    errors_into(set, &seed, counter, &mut out);
-    report::number_sum(&out);
-    report::end();
-}
-
 // Draws the multipliers of one sealing.
-pub fn multipliers_into(set: usize, seed: &[u8], out: &mut [u32])
+fn multipliers_into(set: usize, seed: &[u8], out: &mut [u32])
     requires { ⌜ (length (now seed) ≤ 65536) × (length (now out) ≡ 10240) ⌝ }
 {
     let p = parameters(set);
     let count = multiplier_count(p);
     samplers::multipliers_from(p, seed, &mut out[0..count]);
-}
-
-// The same after the set.
-fn multipliers(set: usize, seed: [u8; 32]) {
-    let mut out = [7u32; 10240];
-    report::text(b"multipliers");
-    report::number(set as u64);
-    multipliers_into(set, &seed, &mut out);
-    report::number_sum(&out);
-    report::end();
-}
-
-// Every draw of a set from one seed.
-fn one_seed(set: usize, seed: [u8; 32]) {
-    all_residues(set, seed);
-    errors(set, seed, 1);
-    errors(set, seed, 70000);
-    multipliers(set, seed);
 }
 
 // Prints where a draw stands after a block; of a draw that is refused the results are not told.
@@ -173,60 +105,121 @@ fn progress(given: Progress, out: &[u32]) {
     report::number_sum(out);
 }
 
-// A block: a pattern in which `count` candidates from number `first` on are set aside.
-fn block(start: usize, first: usize, count: usize) -> [u8; 384] {
-    let mut bytes = [0u8; 384];
-    report::fill_bytes(&mut bytes, start);
-    report::set_aside(&mut bytes, first, count);
-    bytes
-}
-
 // Goes on with a draw over one block.
-fn next_block(set: usize, bytes: [u8; 384], done: usize, run: u32, out: &mut [u32]) -> Progress {
+fn next_block(set: usize, bytes: &[u8], done: usize, run: u32, out: &mut [u32]) -> Progress {
     let p = parameters(set);
-    if done < out.len() {
-        if run < 128 {
-            return samplers::block::continue_draw(&bytes, p.q, p.zqrej, done, run, out);
-        }
+    if done < out.len() && run < 128 && 3 <= bytes.len() {
+        return samplers::block::continue_draw(bytes, p.q, p.zqrej, done, run, out);
     }
     Progress::Reached(done, run)
 }
 
-// The second block, where the first has left some results to draw.
-fn second_block(set: usize, bytes: [u8; 384], reached: Progress, out: &mut [u32]) {
-    let Progress::Reached(done, run) = reached else {
-        return;
-    };
-    let given = next_block(set, bytes, done, run, out);
-    progress(given, out);
-}
-
-// A draw of 40 residues over a block that ends in 100 candidates set aside and one that begins with some more.
-fn two_blocks(set: usize, aside: usize) {
+// Prints where a draw of 40 residues stands after each of two blocks of 384 bytes.
+fn two_blocks(line: [usize; 16], bytes: &[u8]) {
     let mut out = [7u32; 40];
+    let set = line[1];
     report::text(b"blocks");
-    report::number(set as u64);
-    report::number(aside as u64);
-    let reached = next_block(set, block(1, 28, 100), 0, 0, &mut out);
-    progress(reached, &out);
-    second_block(set, block(2, 0, aside), reached, &mut out);
+    script::operands(line, 2);
+    let first = next_block(set, report::front(bytes, 384), 0, 0, &mut out);
+    progress(first, &out);
+    if let Progress::Reached(done, run) = first {
+        let second = next_block(set, report::part(bytes, 384, 384), done, run, &mut out);
+        progress(second, &out);
+    }
     report::end();
 }
 
-// Every draw of a set from two seeds, then 126, 127 and 128 candidates set aside in a row.
-fn one_set(set: usize) {
-    one_seed(set, seed_from(1));
-    one_seed(set, seed_from(2));
-    two_blocks(set, 26);
-    two_blocks(set, 27);
-    two_blocks(set, 28);
+// The seed at a place.
+fn seed_at(bytes: &[u8], place: usize) -> [u8; 32] {
+    let mut seed = [0u8; 32];
+    report::repeat(&mut seed, report::part(bytes, place, 32));
+    seed
 }
 
-// Every set.
-pub fn run() {
-    let mut set: usize = 1;
-    while set <= sets::LAST {
-        one_set(set);
-        set += 1;
+// Prints a space and a number; above the half it stands for what it is less than the modulus.
+fn print(x: u32, half: u32, q: u32) {
+    if half < x {
+        if x <= q {
+            report::text(b" -");
+            io::print_decimal(STDOUT_FILENO, (q - x) as u64);
+            return;
+        }
+    }
+    report::number(x as u64);
+}
+
+// Prints numbers so.
+fn print_all(values: &[u32], half: u32, q: u32) {
+    let mut i: usize = 0;
+    while i < values.len() {
+        print(values[i], half, q);
+        i += 1;
+    }
+}
+
+// Prints the numbers that a line asks for.
+fn part(line: [usize; 16], out: &[u32]) {
+    let p = parameters(line[1]);
+    print_all(
+        report::numbers(out, line[6], line[7]),
+        script::word(line[8]),
+        p.q,
+    );
+}
+
+// Residues: set, block size, first counter and results wanted. The checksum covers the numbers past the results too, which stay as they were.
+fn residues(line: [usize; 16], seed: [u8; 32]) {
+    let mut out = [7u32; 10240];
+    let given = residues_into(
+        line[1],
+        &seed,
+        line[2],
+        script::word(line[3]),
+        line[4],
+        &mut out,
+    );
+    if 0 < line[7] {
+        part(line, &out);
+        return;
+    }
+    report::text(b"residues");
+    script::operands(line, 4);
+    advance(given);
+    report::work_end(&out);
+}
+
+// The errors of one key: set and counter.
+fn errors(line: [usize; 16], seed: [u8; 32]) {
+    let mut out = [7u32; 10240];
+    errors_into(line[1], &seed, script::word(line[2]), &mut out);
+    if 0 < line[7] {
+        part(line, &out);
+        return;
+    }
+    report::text(b"errors");
+    script::operands(line, 2);
+    report::work_end(&out);
+}
+
+// The multipliers of one sealing: set.
+fn multipliers(line: [usize; 16], seed: [u8; 32]) {
+    let mut out = [7u32; 10240];
+    multipliers_into(line[1], &seed, &mut out);
+    if 0 < line[7] {
+        part(line, &out);
+        return;
+    }
+    report::text(b"multipliers");
+    script::operands(line, 1);
+    report::work_end(&out);
+}
+
+// One of these.
+pub fn step(line: [usize; 16], bytes: &[u8]) {
+    match line[0] {
+        13 => residues(line, seed_at(bytes, line[5])),
+        14 => errors(line, seed_at(bytes, line[5])),
+        15 => multipliers(line, seed_at(bytes, line[5])),
+        _ => two_blocks(line, bytes),
     }
 }

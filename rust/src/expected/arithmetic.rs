@@ -46,7 +46,7 @@ impl Arithmetic {
     }
 
     /// A call: its name, its operands, and what it answers and leaves.
-    pub fn call(&mut self, command: usize, name: &str, operands: &[usize], left: &str) {
+    fn call(&mut self, command: usize, name: &str, operands: &[usize], left: &str) {
         self.script.command(&[&[command], operands].concat());
         let operands: String = operands.iter().map(|x| format!(" {x}")).collect();
         self.script.print(&format!("{name}{operands} {left}\n"));

@@ -1,10 +1,8 @@
-//! What the programs print of their rounds of random calls.
+//! What run_scheme prints of its rounds of random calls, and the generator of such calls.
 
 use super::cases::{self, Case};
 use super::report::changed;
-use super::{draws, sheets, sponge, whole};
-use crate::parameters::set;
-use crate::sponge::{kmac256, kmacxof256};
+use super::{sheets, whole};
 
 pub const ROUNDS: usize = 20;
 
@@ -43,7 +41,7 @@ impl Group {
         }
     }
 
-    fn bytes(&self, slice: usize, length: usize) -> Vec<u8> {
+    pub fn bytes(&self, slice: usize, length: usize) -> Vec<u8> {
         (0..length).map(|i| self.number(slice, i) as u8).collect()
     }
 
@@ -66,38 +64,6 @@ fn put_number(bytes: &mut [u8], place: usize, value: usize) {
     for (byte, digit) in bytes.iter_mut().skip(place).zip(&value.to_le_bytes()[..3]) {
         *byte = *digit;
     }
-}
-
-fn hashes(group: &Group, bytes: &[u8]) -> String {
-    let length = |i| match group.below(i, 20) {
-        kind if kind < 2 => 65536 + kind,
-        _ => group.below(i + 100, 600),
-    };
-    let mut out = vec![7; 65537];
-    let shake = sponge::shake_of(bytes, &mut out, [0, 1].map(length));
-    let kmac = sponge::kmac_of("kmac256", kmac256, bytes, &mut out, [2, 3, 4, 5].map(length));
-    shake + &kmac + &sponge::kmac_of("kmacxof256", kmacxof256, bytes, &mut out, [6, 7, 8, 9].map(length))
-}
-
-fn drawn(group: &Group, mut bytes: Vec<u8>) -> String {
-    let wanted = |i| match group.below(i, 24) {
-        kind if kind < 3 => 4095 + kind,
-        _ => group.below(i + 100, 200),
-    };
-    let lent = |i, enough, more| match group.one_in(i, 4) {
-        true => group.below(i + 100, 2 * enough + 1),
-        false => enough + group.below(i + 100, more),
-    };
-    let (first, aside, count) = (group.below(0, 20), group.below(1, 8), wanted(2));
-    let aside = if aside < 4 { 126 + aside } else { 0 };
-    draws::set_aside(&mut bytes, first, aside);
-    let text = draws::residues_of(&bytes, &mut [7; 4097], group.set(4), [lent(3, 3 * count, 1200), count, first, aside]);
-    let (mut out, count, number) = ([7; 4097], wanted(5), group.set(8));
-    let text = text + &draws::errors_of(&bytes, &mut out, group.set(7), lent(6, count, 2), count);
-    let s = set(number.clamp(1, 12)).unwrap();
-    let enough = s.multipliers() * s.multiplier_bytes() + s.multipliers() / 8;
-    let case = [lent(9, enough, 500), group.below(10, s.multipliers()), wanted(11)];
-    text + &draws::multipliers_of(&bytes, &mut out, number, case)
 }
 
 /// Key, sealing and opening in one scheme, then all steps in one call.
@@ -150,13 +116,6 @@ fn sheet_calls(group: &Group) -> String {
 
 fn rounds(calls: impl Fn(usize) -> String) -> String {
     (0..ROUNDS).map(|i| format!("round {i}\n") + &calls(8 * i)).collect()
-}
-
-pub fn bytes() -> String {
-    rounds(|first| {
-        let bytes = Group(first).bytes(1, 65537);
-        hashes(&Group(first), &bytes) + &drawn(&Group(first + 1), bytes)
-    })
 }
 
 pub fn scheme() -> String {

@@ -1,4 +1,4 @@
-//! What run_scheme and run_bytes read and print first: the known answers of an independent model (rust/vectors/titanium.txt), as that file has them.
+//! What run_scheme reads and prints first: the known answers of an independent model (rust/vectors/titanium.txt), as that file has them.
 
 use crate::sheet::sheet;
 use std::collections::HashMap;
@@ -18,27 +18,15 @@ const NAMES: [&str; 11] = [
     "c2_before_packing_first_8",
 ];
 
-/// What the draws give of a set of the encryption scheme.
-const DRAWN: [&str; 8] = [
-    "set",
-    "s_hat_first_8",
-    "e_polynomial_0_first_8",
-    "e_polynomial_1_first_8",
-    "a_polynomial_0_first_4",
-    "a_polynomial_1_first_4",
-    "r_polynomial_0_first_8",
-    "r_last_8",
-];
-
-type Values = HashMap<&'static str, &'static str>;
+pub type Values = HashMap<&'static str, &'static str>;
 
 /// The values of each set by their names.
-fn sets() -> Vec<Values> {
+pub fn sets() -> Vec<Values> {
     let lines = |set: &'static str| set.lines().filter(|line| !line.starts_with('#')).filter_map(|line| line.split_once(' ')).collect();
     include_str!("../../vectors/titanium.txt").split("\n\n").map(lines).filter(|set: &Values| set.contains_key("set")).collect()
 }
 
-fn bytes(hex: &str) -> Vec<u8> {
+pub fn bytes(hex: &str) -> Vec<u8> {
     (0..hex.len() / 2).map(|i| u8::from_str_radix(&hex[2 * i..2 * i + 2], 16).unwrap()).collect()
 }
 
@@ -72,22 +60,4 @@ pub fn text() -> String {
         None => String::new(),
     };
     sets().iter().map(|set| NAMES.iter().map(|name| line(set, name)).collect::<String>() + &noise(set)).collect()
-}
-
-/// The sets whose draws are known.
-fn drawn() -> impl Iterator<Item = Values> {
-    sets().into_iter().filter(|set| set.contains_key("s_hat_first_8"))
-}
-
-/// For each of these its number, the seed of its secret, that of its public polynomials and that of its sealing.
-pub fn drawn_input() -> Vec<u8> {
-    let case = |set: Values| {
-        let seeds = [set["secret_key"], &set["public_key_first_48"][..64], set["sealing_seed"]].map(bytes);
-        [vec![set["set"].parse().unwrap()], seeds.concat()].concat()
-    };
-    drawn().flat_map(case).collect()
-}
-
-pub fn drawn_text() -> String {
-    drawn().map(|set| DRAWN.map(|name| format!("{name} {}\n", set[name])).concat()).collect()
 }

@@ -1,11 +1,14 @@
 //! What the programs of crates/run_* read and print, made by this implementation.
 
 pub mod arithmetic;
+pub mod bytes;
 pub mod cases;
 pub mod damage;
 pub mod damage_arithmetic;
+pub mod damage_bytes;
 pub mod draws;
 pub mod known;
+pub mod known_draws;
 pub mod middle;
 pub mod numbers;
 pub mod report;

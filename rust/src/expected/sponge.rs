@@ -1,92 +1,79 @@
-//! What run_bytes prints of SHAKE256 and KMAC.
+//! The calls of SHAKE256 and KMAC that run_bytes makes.
 
-use super::report::{answer, byte_sum, hex, pattern};
-use crate::draws::{refusal, Refusal};
-use crate::sponge::{kmac256, kmacxof256, shake256};
+use super::bytes::{Bytes, LIMIT};
 
-const LIMIT: usize = 65536;
+fn shake(run: &mut Bytes, input: usize, output: usize) {
+    run.out_pattern(2);
+    run.shake([input, output]);
+}
 
-/// The answer of a sponge call whose slices have these lengths.
-fn checked(lengths: &[usize]) -> Result<(), Refusal> {
-    if lengths.iter().any(|&length| length > LIMIT) {
-        return refusal(6, 0);
+fn fixed(run: &mut Bytes, lengths: [usize; 4]) {
+    run.out_pattern(4);
+    run.kmac(true, lengths);
+}
+
+fn extendable(run: &mut Bytes, lengths: [usize; 4]) {
+    run.out_pattern(5);
+    run.kmac(false, lengths);
+}
+
+/// The examples of FIPS 202 for SHAKE256 and the samples of SP 800-185: key at 0, input at 100, customization at 300.
+fn samples(run: &mut Bytes) {
+    for (length, byte) in [(0, 0), (200, 0xa3)] {
+        run.constant(0, length, byte);
+        run.script.text("sample");
+        run.shake_sample(length, 512);
+        run.script.text("\n");
     }
-    Ok(())
-}
-
-/// SHAKE256 of the first bytes of `x`, over the first of `y`.
-pub fn shake_of(x: &[u8], y: &mut [u8], [input, output]: [usize; 2]) -> String {
-    let checked = checked(&[input, output]);
-    if checked.is_ok() {
-        shake256(&x[..input], &mut y[..output]);
+    run.put(0, &(0x40..0x60).collect::<Vec<u8>>());
+    run.put(100, &(0..200).collect::<Vec<u8>>());
+    run.put(300, b"My Tagged Application");
+    for (input, customization) in [(4, 0), (4, 21), (200, 0), (200, 21)] {
+        run.script.text("sample");
+        run.kmac_sample(true, [0, 100, 300], [32, input, customization, 64]);
+        run.kmac_sample(false, [0, 100, 300], [32, input, customization, 64]);
+        run.script.text("\n");
     }
-    format!("shake256 {input} {output} {} {}\n", answer(&checked), byte_sum(y))
 }
 
-fn shake(input: usize, output: usize) -> String {
-    shake_of(&pattern(LIMIT + 1, 1), &mut pattern(LIMIT + 1, 2), [input, output])
-}
-
-type Kmac = fn(&[u8], &[u8], &[u8], &mut [u8]);
-
-/// The same of KMAC256 or KMACXOF256.
-pub fn kmac_of(name: &str, function: Kmac, x: &[u8], y: &mut [u8], [key, input, customization, output]: [usize; 4]) -> String {
-    let checked = checked(&[key, input, customization, output]);
-    if checked.is_ok() {
-        function(&x[..key], &x[..input], &x[..customization], &mut y[..output]);
+fn around(run: &mut Bytes, edge: usize) {
+    for n in edge..edge + 9 {
+        shake(run, n, 32);
+        shake(run, 5, n);
+        fixed(run, [n, 4, 0, 32]);
+        fixed(run, [32, n, 3, 32]);
+        extendable(run, [32, 4, n, 32]);
+        extendable(run, [32, 4, 0, n]);
     }
-    format!("{name} {key} {input} {customization} {output} {} {}\n", answer(&checked), byte_sum(y))
-}
-
-fn fixed(lengths: [usize; 4]) -> String {
-    kmac_of("kmac256", kmac256, &pattern(LIMIT + 1, 1), &mut pattern(LIMIT + 1, 4), lengths)
-}
-
-fn extendable(lengths: [usize; 4]) -> String {
-    kmac_of("kmacxof256", kmacxof256, &pattern(LIMIT + 1, 1), &mut pattern(LIMIT + 1, 5), lengths)
-}
-
-fn samples() -> String {
-    let mut text = String::new();
-    for message in [&[][..], &[0xa3; 200]] {
-        let mut out = [0; 512];
-        shake256(message, &mut out);
-        text += &format!("sample {}\n", hex(&out));
-    }
-    let key: Vec<u8> = (0x40..0x60).collect();
-    let counted: Vec<u8> = (0..200).collect();
-    for (input, customization) in [(4, ""), (4, "My Tagged Application"), (200, ""), (200, "My Tagged Application")] {
-        let (mut one, mut other) = ([0; 64], [0; 64]);
-        kmac256(&key, &counted[..input], customization.as_bytes(), &mut one);
-        kmacxof256(&key, &counted[..input], customization.as_bytes(), &mut other);
-        text += &format!("sample {} {}\n", hex(&one), hex(&other));
-    }
-    text
-}
-
-fn around(edge: usize) -> String {
-    (edge..edge + 9)
-        .map(|n| {
-            let kmacs = [fixed([n, 4, 0, 32]), fixed([32, n, 3, 32]), extendable([32, 4, n, 32]), extendable([32, 4, 0, n])];
-            shake(n, 32) + &shake(5, n) + &kmacs.concat()
-        })
-        .collect()
 }
 
 /// One slice of each function with a length, the others of one byte.
-fn one_slice(slice: usize, n: usize) -> String {
+fn one_slice(run: &mut Bytes, slice: usize, n: usize) {
     let mut lengths = [1; 4];
     lengths[slice] = n;
-    let shake = if slice < 2 { shake(lengths[0], lengths[1]) } else { String::new() };
-    fixed(lengths) + &extendable(lengths) + &shake
+    fixed(run, lengths);
+    extendable(run, lengths);
+    if slice < 2 {
+        shake(run, lengths[0], lengths[1]);
+    }
 }
 
 /// Each slice around the limit, then all of them at it.
-fn limits() -> String {
-    let each: String = (LIMIT - 1..=LIMIT + 1).flat_map(|n| (0..4).map(move |slice| one_slice(slice, n))).collect();
-    each + &shake(LIMIT, LIMIT) + &fixed([LIMIT; 4])
+fn limits(run: &mut Bytes) {
+    for n in LIMIT - 1..=LIMIT + 1 {
+        for slice in 0..4 {
+            one_slice(run, slice, n);
+        }
+    }
+    shake(run, LIMIT, LIMIT);
+    fixed(run, [LIMIT; 4]);
 }
 
-pub fn text() -> String {
-    samples() + &[0, 132, 268].map(around).concat() + &limits()
+pub fn run(run: &mut Bytes) {
+    samples(run);
+    run.pattern(0, LIMIT + 1, 1);
+    for edge in [0, 132, 268] {
+        around(run, edge);
+    }
+    limits(run);
 }
