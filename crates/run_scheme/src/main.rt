@@ -1,56 +1,60 @@
-// Runs the encryption scheme, the key exchange and the noise sheet, and random calls of them. Standard input holds six known cases, 24 of the ties and the
-// inputs of the sheets.
-mod cases;
-mod damage;
-mod known;
+// Runs a script of calls of the encryption scheme, of the key exchange and of the noise sheet. Standard input holds the script, which the Rust comparison
+// writes beside what must be printed.
+mod inner;
 mod schemes;
 mod sheets;
-mod ties;
-mod unpacked;
+mod store;
 mod whole;
 
 use libc::STDIN_FILENO;
+ghost use Prim.Native.Nat.{_<_};
 
-// What comes after the schemes: the sheets, a sheet in slices of other lengths, a sealing at a bound, or a round of random calls.
-fn sheet_part(i: usize, input: &[u8], store: &mut [u8]) {
-    if i < 1 {
-        sheets::print_sheets(report::part(input, 1110, 65536));
-    } else if i < 6 {
-        sheets::bench_lent(i - 1);
-    } else if i < 15 {
-        sheets::print_bound(i - 6);
-    } else {
-        damage::round(i - 15, store);
+// One command that prints or fills the store.
+fn run_plain(line: [usize; 16], store: &mut [u8]) {
+    let command = line[0];
+    match command {
+        0 => store::put(line, report::part_mut(store, line[1], line[2])),
+        1 => report::fill_bytes(report::part_mut(store, line[1], line[2]), line[3]),
+        2 => report::random::fill(report::part_mut(store, line[1], line[2]), line[3], line[4]),
+        3 => store::repeat(line, store),
+        4 => store::flip(store, line[1], report::low_byte(line[2])),
+        5 => report::text(report::part(store, line[1], line[2])),
+        6 => store::print_hex(report::part(store, line[1], line[2])),
+        _ => store::print_digest(report::part(store, line[1], line[2])),
     }
 }
 
-// Part number i: a known case, or a tie (two for each set), or a line of the encryption scheme, or one of the key exchange, or all steps in one call.
-fn part(i: usize, input: &[u8], store: &mut [u8]) {
-    if i < 6 {
-        known::run(report::part(input, 97 * i, 97), store);
-    } else if i < 30 {
-        ties::run(i / 2 - 2, report::part(input, 450 + 22 * i, 22));
-    } else if i < 3446 {
-        cases::line(1738 <= i, (i - 30) % 1708, store);
-    } else if i < 4706 {
-        whole::line(4076 <= i, (i - 3446) % 630);
-    } else {
-        sheet_part(i - 4706, input, store);
+// One command.
+fn run_line(line: [usize; 16], store: &mut [u8]) {
+    let command = line[0];
+    match command {
+        8 => schemes::key_line(line, store),
+        9 => schemes::seal_line(line, store),
+        10 => schemes::open_line(line, store),
+        11 => whole::seal_and_read(line, store),
+        12 => whole::share_a_key(line, store),
+        13 => inner::open(line, store),
+        14 => inner::print_unpacked(line, store),
+        15 => sheets::print_sheet(line, store),
+        16 => sheets::print_bound(line),
+        _ => run_plain(line, store),
     }
 }
 
-// All parts; the rounds are twenty.
-fn parts(input: &[u8], store: &mut [u8]) {
-    let mut i: usize = 0;
-    while i < 4741 {
-        part(i, input, store);
-        i += 1;
+// All commands of a script.
+fn run(script: &[u8], store: &mut [u8]) {
+    let mut at: usize = 0;
+    while at < script.len() {
+        let line = report::script::line_at(script, at);
+        let values = line.values;
+        run_line(values, store);
+        at = line.next;
     }
 }
 
 fn main() {
-    let mut input = io::large_buffer();
-    let mut store = [0u8; schemes::END];
-    let end = io::read_full(STDIN_FILENO, &mut input);
-    parts(report::front(&input, end), &mut store);
+    let mut script = [0u8; 400000];
+    let mut store = [0u8; store::END];
+    let end = io::read_full(STDIN_FILENO, &mut script);
+    run(report::front(&script, end), &mut store);
 }

@@ -1,41 +1,42 @@
-// Key, sealing and reading in one call, for every set in both schemes: each slice one short and one long, and each two of them wrong
-// at once.
-use calls::Answer;
-use report::lengths;
+// Key, sealing and reading in one call of either scheme. A line has the command, the set, which lengths were changed, and the length of each slice of the
+// call. The outputs are filled with patterns before, and the checksums cover what lies behind them too.
+use crate::store;
 
-// The call of one of the two schemes with the lengths of a set, up to two of them changed; only the encryption scheme has a sealing seed, its third slice, and
-// only the key exchange a shared key of the sender.
-fn answer(
-    is_exchange: bool,
-    set: usize,
-    change: usize,
-    inputs: &[u8],
-    public: &mut [u8],
-    secret: &mut [u8],
-    sealed: &mut [u8],
-    sent: &mut [u8],
-    received: &mut [u8],
-    work: &mut [u32],
-) -> Answer {
-    let places = if is_exchange { [2, 3, 4] } else { [3, 4, 5] };
-    let seed = lengths::input(inputs, 0, 0, change);
-    let message = lengths::input(inputs, 64, 1, change);
-    let sealing = lengths::input(inputs, 32, 2, change);
-    let key = lengths::cut_mut(public, set, 0, places[0], change);
-    let own = lengths::cut_mut(secret, set, 1, places[1], change);
-    let text = lengths::cut_mut(sealed, set, 2, places[2], change);
-    let given = lengths::output(sent, 5, change);
-    let read = lengths::output(received, 6, change);
-    let lent = lengths::cut_work(work, set, 7, change);
-    if is_exchange {
-        share_a_key::share_a_key(set, seed, message, key, own, text, given, read, lent)
-    } else {
-        seal_and_read::seal_and_read(set, seed, message, sealing, key, own, text, read, lent)
-    }
+// The encryption scheme, which has no shared key of the sender.
+pub fn seal_and_read(line: [usize; 16], store: &[u8]) {
+    let mut public = [0u8; 26913];
+    let mut secret = [0u8; 26945];
+    let mut sealed = [0u8; 8353];
+    let mut received = [0u8; 33];
+    let mut work = [7u32; 25081];
+    report::fill_bytes(&mut public, 1);
+    report::fill_bytes(&mut secret, 2);
+    report::fill_bytes(&mut sealed, 3);
+    report::fill_bytes(&mut received, 5);
+    report::call(b"whole", line[1], line[2]);
+    report::answer(seal_and_read::seal_and_read(
+        line[1],
+        report::part(store, store::SEED, line[3]),
+        report::part(store, store::MESSAGE, line[4]),
+        report::part(store, store::SEALING, line[5]),
+        report::front_mut(&mut public, line[6]),
+        report::front_mut(&mut secret, line[7]),
+        report::front_mut(&mut sealed, line[8]),
+        report::front_mut(&mut received, line[9]),
+        report::numbers_mut(&mut work, 0, line[10]),
+    ));
+    report::byte_sum(&public);
+    report::byte_sum(&secret);
+    report::byte_sum(&sealed);
+    let mut sent = [0u8; 33];
+    report::fill_bytes(&mut sent, 4);
+    report::bytes(&sent);
+    report::bytes(&received);
+    report::work_end(&work);
 }
 
-// One call; the outputs are filled with patterns before, and the checksums cover what lies behind them too.
-pub fn call(is_exchange: bool, set: usize, change: usize, inputs: &[u8]) {
+// The key exchange, which has no sealing seed.
+pub fn share_a_key(line: [usize; 16], store: &[u8]) {
     let mut public = [0u8; 26913];
     let mut secret = [0u8; 26945];
     let mut sealed = [0u8; 8353];
@@ -47,18 +48,17 @@ pub fn call(is_exchange: bool, set: usize, change: usize, inputs: &[u8]) {
     report::fill_bytes(&mut sealed, 3);
     report::fill_bytes(&mut sent, 4);
     report::fill_bytes(&mut received, 5);
-    report::call(b"whole", set, change);
-    report::answer(answer(
-        is_exchange,
-        set,
-        change,
-        inputs,
-        &mut public,
-        &mut secret,
-        &mut sealed,
-        &mut sent,
-        &mut received,
-        &mut work,
+    report::call(b"whole", line[1], line[2]);
+    report::answer(share_a_key::share_a_key(
+        line[1],
+        report::part(store, store::SEED, line[3]),
+        report::part(store, store::MESSAGE, line[4]),
+        report::front_mut(&mut public, line[5]),
+        report::front_mut(&mut secret, line[6]),
+        report::front_mut(&mut sealed, line[7]),
+        report::front_mut(&mut sent, line[8]),
+        report::front_mut(&mut received, line[9]),
+        report::numbers_mut(&mut work, 0, line[10]),
     ));
     report::byte_sum(&public);
     report::byte_sum(&secret);
@@ -66,16 +66,4 @@ pub fn call(is_exchange: bool, set: usize, change: usize, inputs: &[u8]) {
     report::bytes(&sent);
     report::bytes(&received);
     report::work_end(&work);
-}
-
-// Line number i: 45 lines for each set of a scheme.
-pub fn line(is_exchange: bool, i: usize) {
-    let mut inputs = [0u8; 97];
-    lengths::fill_inputs(&mut inputs, 0);
-    call(
-        is_exchange,
-        i / 45,
-        lengths::change(8, 44 - i % 45),
-        &inputs,
-    );
 }

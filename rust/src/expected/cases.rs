@@ -1,6 +1,7 @@
-//! What run_scheme prints of the calls of the encryption scheme and of the key exchange.
+//! The calls of the encryption scheme and of the key exchange in run_scheme.
 
-use super::report::{answer, byte_sum, hex, number_sum, pattern};
+use super::report::{answer, byte_sum, changed, hex, number_sum, pattern};
+use super::store::{Command, Store, MESSAGE, OPENED, PUBLIC, SEALED, SEALING, SECRET, SEED};
 use crate::draws::{refusal, Refusal};
 use crate::parameters::{set, Set};
 use crate::scheme::{decapsulate, decrypt, encapsulate, encrypt, exchange_key, key};
@@ -22,21 +23,6 @@ pub const SETS: [[usize; 5]; 14] = [
     [26912, 26944, 8352, 25080, 1198081],
     [26912, 26944, 8352, 25080, 1198081],
 ];
-
-/// One set with one choice of inputs, in one of the two schemes.
-pub struct Case {
-    is_exchange: bool,
-    number: usize,
-    inputs: [Vec<u8>; 3],
-    pub public: Vec<u8>,
-    pub secret: Vec<u8>,
-    pub sealed: Vec<u8>,
-}
-
-/// Writes what a call made at the front of a slice.
-pub fn put(slice: &mut [u8], made: &[u8]) {
-    slice[..made.len()].copy_from_slice(made);
-}
 
 /// What the wrong length of each slice of a call is refused with: 9 is for a ciphertext, 10 for a work slice, 2 for any other.
 pub const KEY: &[u8] = &[2, 2, 2, 10];
@@ -66,123 +52,163 @@ fn changed_slice(change: usize) -> Option<usize> {
     }
 }
 
-/// The checks of a call: the set, which must be one of the scheme's own, then whether a length was changed; of two changes the one that is looked at first
-/// has the lower number.
-pub fn checked(is_exchange: bool, number: usize, slices: &[u8], change: usize) -> Result<Set, Refusal> {
-    let wrong = [change % 100, change / 100].into_iter().filter_map(changed_slice).map(|slice| slices[slice]).min();
-    match (set(number), wrong) {
-        (None, _) => refusal(1, 0),
-        (Some(s), _) if s.number == 0 => refusal(1, 0),
-        (Some(s), _) if s.is_exchange() != is_exchange => refusal(8, 0),
-        (Some(_), Some(wrong)) => refusal(wrong, 0),
-        (Some(s), None) => Ok(s),
-    }
+/// What is printed of a call.
+#[derive(Clone, Copy)]
+pub enum Shown {
+    Nothing,
+    Line,
+    Answer,
 }
 
-impl Case {
-    /// A case that has made no keys; its inputs are a key seed, a sealing seed and a message.
-    pub fn new(is_exchange: bool, number: usize, inputs: [Vec<u8>; 3]) -> Self {
-        Case { is_exchange, number, inputs, public: Vec::new(), secret: Vec::new(), sealed: Vec::new() }
+/// A call of one of the two schemes: its set, which lengths are changed, and what is printed of it.
+#[derive(Clone, Copy)]
+pub struct Call {
+    pub is_exchange: bool,
+    pub number: usize,
+    pub change: usize,
+    pub shown: Shown,
+}
+
+impl Call {
+    /// The checks: the set, which must be one of the scheme's own, then whether a length was changed; of two changes the one that is looked at first has the
+    /// lower number.
+    pub fn checked(&self, slices: &[u8]) -> Result<Set, Refusal> {
+        let wrong = [self.change % 100, self.change / 100].into_iter().filter_map(changed_slice).map(|slice| slices[slice]).min();
+        match (set(self.number), wrong) {
+            (None, _) => refusal(1, 0),
+            (Some(s), _) if s.number == 0 => refusal(1, 0),
+            (Some(s), _) if s.is_exchange() != self.is_exchange => refusal(8, 0),
+            (Some(_), Some(wrong)) => refusal(wrong, 0),
+            (Some(s), None) => Ok(s),
+        }
     }
 
-    fn checked(&self, slices: &[u8], change: usize) -> Result<Set, Refusal> {
-        checked(self.is_exchange, self.number, slices, change)
+    /// The lengths of the slices with up to two of them changed.
+    pub fn changed<const N: usize>(&self, lengths: [usize; N]) -> [usize; N] {
+        changed(changed(lengths, self.change % 100), self.change / 100)
     }
 
     /// A line: the call, its answer, what is printed of its outputs, and the checksum of the work slice, which is cleared where the checks passed.
-    fn line<T>(&self, name: &str, slices: &[u8], change: usize, given: &Result<T, Refusal>, outputs: &str) -> String {
+    pub fn line<T>(&self, name: &str, slices: &[u8], given: &Result<T, Refusal>, outputs: &str) -> String {
         let mut work = vec![7; 25081];
-        if self.checked(slices, change).is_ok() {
+        if self.checked(slices).is_ok() {
             work[..SETS[self.number][3]].fill(0);
         }
-        format!("{name} {} {change} {} {outputs} {}\n", self.number, answer(given), number_sum(&work))
+        format!("{name} {} {} {} {outputs} {}\n", self.number, self.change, answer(given), number_sum(&work))
+    }
+}
+
+/// A pattern with what a call made in front of it.
+pub fn over_pattern(length: usize, start: usize, made: Option<&[u8]>) -> Vec<u8> {
+    let mut slice = pattern(length, start);
+    if let Some(made) = made {
+        slice[..made.len()].copy_from_slice(made);
+    }
+    slice
+}
+
+impl Store {
+    /// The command of a call, with a length for each slice that the call has in either scheme; one that it has not is 0 long.
+    fn call(&mut self, command: Command, call: Call, lengths: &[usize]) {
+        let Call { is_exchange, number, change, shown } = call;
+        self.command(command, &[&[is_exchange as usize, shown as usize, number, change], lengths].concat());
     }
 
-    pub fn key(&mut self, change: usize) -> String {
-        let make = if self.is_exchange { exchange_key } else { key };
-        let made = self.checked(KEY, change).and_then(|s| make(&s, &self.inputs[0]));
-        (self.public, self.secret) = (pattern(26913, 1), pattern(26945, 2));
-        if let Ok((public, secret)) = &made {
-            put(&mut self.public, public);
-            put(&mut self.secret, secret);
+    fn print_call<T>(&mut self, call: Call, name: &str, slices: &[u8], given: &Result<T, Refusal>, outputs: &str) {
+        match call.shown {
+            Shown::Nothing => (),
+            Shown::Line => self.print(&call.line(name, slices, given, outputs)),
+            Shown::Answer => self.print(&format!(" {}", answer(given))),
         }
-        let secret = if self.is_exchange { byte_sum(&self.secret).to_string() } else { hex(&self.secret[..33]) };
-        self.line("key", KEY, change, &made, &format!("{} {secret}", byte_sum(&self.public)))
     }
 
-    fn encrypt(&mut self, change: usize) -> String {
-        let public = &self.public[..SETS[self.number][0]];
-        let made = self.checked(ENCRYPT, change).and_then(|s| encrypt(&s, public, &self.inputs[2], &self.inputs[1]));
-        self.sealed = pattern(8353, 3);
-        if let Ok(sealed) = &made {
-            put(&mut self.sealed, sealed);
-        }
-        self.line("encrypt", ENCRYPT, change, &made, &byte_sum(&self.sealed[..8321]).to_string())
+    pub fn key(&mut self, call: Call) {
+        let [public, secret, _, work, _] = SETS[call.number];
+        self.call(Command::Key, call, &call.changed([32, public, secret, work]));
+        let make = if call.is_exchange { exchange_key } else { key };
+        let made = call.checked(KEY).and_then(|s| make(&s, self.part(SEED, 32)));
+        let public = over_pattern(26913, 1, made.as_ref().ok().map(|(public, _)| &public[..]));
+        let secret = over_pattern(26945, 2, made.as_ref().ok().map(|(_, secret)| &secret[..]));
+        self.leave(PUBLIC, &public);
+        self.leave(SECRET, &secret);
+        let shown = if call.is_exchange { byte_sum(&secret).to_string() } else { hex(&secret[..33]) };
+        self.print_call(call, "key", KEY, &made, &format!("{} {shown}", byte_sum(&public)));
     }
 
-    fn encapsulate(&mut self, change: usize) -> String {
-        let public = &self.public[..SETS[self.number][0]];
-        let made = self.checked(ENCAPSULATE, change).and_then(|s| encapsulate(&s, public, &self.inputs[2]));
-        let mut shared = pattern(33, 4);
-        self.sealed = pattern(8353, 3);
-        if let Ok((sealed, key)) = &made {
-            put(&mut self.sealed, sealed);
-            put(&mut shared, key);
-        }
-        self.line("encapsulate", ENCAPSULATE, change, &made, &format!("{} {}", byte_sum(&self.sealed), hex(&shared)))
+    fn encrypt(&mut self, call: Call) {
+        let [public, _, sealed, work, _] = SETS[call.number];
+        let [key, message, seed, ciphertext, work] = call.changed([public, 32, 32, sealed, work]);
+        self.call(Command::Seal, call, &[key, message, seed, ciphertext, 0, work]);
+        let made = call.checked(ENCRYPT).and_then(|s| encrypt(&s, self.part(PUBLIC, public), self.part(MESSAGE, 32), self.part(SEALING, 32)));
+        let sealed = over_pattern(8353, 3, made.as_ref().ok().map(|sealed| &sealed[..]));
+        self.leave(SEALED, &sealed);
+        self.print_call(call, "encrypt", ENCRYPT, &made, &byte_sum(&sealed[..8321]).to_string());
     }
 
-    pub fn seal(&mut self, change: usize) -> String {
-        if self.is_exchange {
-            self.encapsulate(change)
+    fn encapsulate(&mut self, call: Call) {
+        let [public, _, sealed, work, _] = SETS[call.number];
+        let [key, message, ciphertext, shared, work] = call.changed([public, 32, sealed, 32, work]);
+        self.call(Command::Seal, call, &[key, message, 0, ciphertext, shared, work]);
+        let made = call.checked(ENCAPSULATE).and_then(|s| encapsulate(&s, self.part(PUBLIC, public), self.part(MESSAGE, 32)));
+        let sealed = over_pattern(8353, 3, made.as_ref().ok().map(|(sealed, _)| &sealed[..]));
+        let shared = over_pattern(33, 4, made.as_ref().ok().map(|(_, shared)| &shared[..]));
+        self.leave(SEALED, &sealed);
+        self.print_call(call, "encapsulate", ENCAPSULATE, &made, &format!("{} {}", byte_sum(&sealed), hex(&shared)));
+    }
+
+    pub fn seal(&mut self, call: Call) {
+        if call.is_exchange {
+            self.encapsulate(call)
         } else {
-            self.encrypt(change)
+            self.encrypt(call)
         }
     }
 
-    pub fn open(&self, change: usize) -> String {
-        let (name, start) = if self.is_exchange { ("decapsulate", 5) } else { ("decrypt", 4) };
-        let open = if self.is_exchange { decapsulate } else { decrypt };
-        let [_, secret_bytes, sealed_bytes, ..] = SETS[self.number];
-        let made = self.checked(OPEN, change).and_then(|s| open(&s, &self.secret[..secret_bytes], &self.sealed[..sealed_bytes]));
-        let mut shared = pattern(33, start);
-        if let Ok(read) = &made {
-            put(&mut shared, read);
+    pub fn open(&mut self, call: Call) {
+        let [_, secret, sealed, work, _] = SETS[call.number];
+        self.call(Command::Open, call, &call.changed([secret, sealed, 32, work]));
+        let (name, start) = if call.is_exchange { ("decapsulate", 5) } else { ("decrypt", 4) };
+        let open = if call.is_exchange { decapsulate } else { decrypt };
+        let made = call.checked(OPEN).and_then(|s| open(&s, self.part(SECRET, secret), self.part(SEALED, sealed)));
+        let opened = over_pattern(33, start, made.as_ref().ok().map(|read| &read[..]));
+        self.leave(OPENED, &opened);
+        self.print_call(call, name, OPEN, &made, &hex(&opened));
+    }
+}
+
+/// Opens with a bit of one byte changed; in the key exchange the byte is changed back, in the encryption scheme the changes add up.
+fn open_flipped(store: &mut Store, call: Call, place: usize) {
+    store.flip(SEALED + place, 1);
+    store.open(call);
+    if call.is_exchange {
+        store.flip(SEALED + place, 1);
+    }
+}
+
+/// One set with one choice of inputs, in one of the two schemes. What reads a key or a ciphertext takes what the calls before it made.
+fn case(store: &mut Store, is_exchange: bool, number: usize, start: usize) {
+    let [_, _, end, _, q] = SETS[number];
+    let second_part = end - if is_exchange { 232 } else { 200 };
+    let modulus = [0, 8, 16].map(|bit| (q >> bit) as u8);
+    let call = |change| Call { is_exchange, number, change, shown: Shown::Line };
+    store.fill_inputs(start);
+    (0..changes(4)).rev().for_each(|i| store.key(call(change(4, i))));
+    (0..changes(5)).rev().for_each(|i| store.seal(call(change(5, i))));
+    (0..changes(4)).rev().for_each(|i| store.open(call(change(4, i))));
+    [end - 1, second_part, 0, end - 32].into_iter().for_each(|place| open_flipped(store, call(0), place));
+    // A number that is no residue, first with a work slice one short.
+    store.put(SEALED, &modulus);
+    [8, 0].into_iter().for_each(|change| store.open(call(change)));
+    store.put(SECRET + 64, &modulus);
+    [8, 0].into_iter().for_each(|change| store.open(call(change)));
+    store.put(PUBLIC + 32, &modulus);
+    [10, 0].into_iter().for_each(|change| store.seal(call(change)));
+}
+
+pub fn run(store: &mut Store) {
+    for is_exchange in [false, true] {
+        for number in 0..14 {
+            [5, 77].into_iter().for_each(|start| case(store, is_exchange, number, start));
         }
-        self.line(name, OPEN, change, &made, &hex(&shared))
     }
-
-    /// Opens with a bit of one byte changed; in the key exchange the byte is changed back, in the encryption scheme the changes add up.
-    fn flipped(&mut self, place: usize) -> String {
-        self.sealed[place] ^= 1;
-        let line = self.open(0);
-        self.sealed[place] ^= self.is_exchange as u8;
-        line
-    }
-
-    fn text(&mut self) -> String {
-        let [_, _, end, _, q] = SETS[self.number];
-        let second_part = end - if self.is_exchange { 232 } else { 200 };
-        let modulus = [0, 8, 16].map(|bit| (q >> bit) as u8);
-        let mut text = (0..changes(4)).rev().map(|i| self.key(change(4, i))).collect::<String>();
-        text += &(0..changes(5)).rev().map(|i| self.seal(change(5, i))).collect::<String>();
-        text += &(0..changes(4)).rev().map(|i| self.open(change(4, i))).collect::<String>();
-        text += &[end - 1, second_part, 0, end - 32].map(|place| self.flipped(place)).concat();
-        // A number that is no residue, first with a work slice one short.
-        put(&mut self.sealed, &modulus);
-        text += &[8, 0].map(|change| self.open(change)).concat();
-        put(&mut self.secret[64..], &modulus);
-        text += &[8, 0].map(|change| self.open(change)).concat();
-        put(&mut self.public[32..], &modulus);
-        text + &[10, 0].map(|change| self.seal(change)).concat()
-    }
-}
-
-fn case(is_exchange: bool, number: usize, start: usize) -> String {
-    Case::new(is_exchange, number, [start, start + 1, start + 2].map(|start| pattern(32, start))).text()
-}
-
-pub fn text() -> String {
-    let scheme = |is_exchange| (0..14).map(|number| case(is_exchange, number, 5) + &case(is_exchange, number, 77)).collect::<String>();
-    scheme(false) + &scheme(true)
 }

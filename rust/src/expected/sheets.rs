@@ -1,6 +1,7 @@
-//! What run_scheme reads and prints last, and what noisesheet does.
+//! The noise sheet in run_scheme, and its input in noisesheet.
 
 use super::report::{byte_sum, changed, number_sum, pattern};
+use super::store::{Command, Store};
 use crate::arithmetic::{bit, middle_product};
 use crate::parameters::set;
 use crate::sheet::sheet;
@@ -46,35 +47,45 @@ fn inputs() -> Vec<Vec<u8>> {
     inputs
 }
 
-/// The inputs one after the other, each after a byte that tells its length.
-pub fn input() -> Vec<u8> {
-    inputs().iter().flat_map(|input| [vec![input.len() as u8], input.clone()].concat()).collect()
-}
-
 /// A sealing of two bits 0 with a made key, whose places have this noise modulo 17.
-fn made(noise: u32) -> String {
+fn made(store: &mut Store, noise: u32) {
     let (s, a, secret, b, r) = (set(0).unwrap(), [3, 5], [1, 2, 3, 4], [11, (2 + noise) % 17, 10], [1, 1]);
     let c1 = middle_product(s.q, &r, &[0, a[0], a[1], 0], 3);
     let c2 = middle_product(s.q, &r, &b, 2);
     let opened = middle_product(s.q, &c1, &secret, 2);
     let bits: Vec<u32> = c2.iter().zip(&opened).map(|(&c, &x)| bit(&s, (c + 17 - x) % 17)).collect();
-    format!("made {noise} done done {} {} {} {}\n", number_sum(&c1), number_sum(&c2), bits[0], bits[1])
+    store.text(&format!("made {noise}"));
+    store.command(Command::Bound, &[b[1] as usize]);
+    store.print(&format!(" done done {} {} {} {}\n", number_sum(&c1), number_sum(&c2), bits[0], bits[1]));
 }
 
-/// The sheet of an input with a text slice and a work slice of these lengths: what is answered and left in both.
-pub fn lent(input: &[u8], [text_bytes, numbers]: [usize; 2]) -> String {
-    let (mut text, mut work, mut written) = (vec![7; 1025], vec![7; 22522], 0);
-    if text_bytes >= 1024 && numbers == 22521 {
-        let sheet = sheet(input);
-        written = sheet.len();
-        text[..written].copy_from_slice(sheet.as_bytes());
-        work[..numbers].fill(0);
+impl Store {
+    /// The sheet of the first bytes of the store.
+    pub fn sheet(&mut self, length: usize) {
+        self.command(Command::Sheet, &[0, length, 1024, 22521]);
+        self.print(&sheet(self.part(0, length)));
     }
-    format!("lent {text_bytes} {numbers} {written} {} {}\n", byte_sum(&text), number_sum(&work))
+
+    /// The same with a text slice and a work slice of these lengths: what is answered and left in both.
+    pub fn lent(&mut self, length: usize, [text_bytes, numbers]: [usize; 2]) {
+        let (mut text, mut work, mut written) = (vec![7; 1025], vec![7; 22522], 0);
+        if text_bytes >= 1024 && numbers == 22521 {
+            let sheet = sheet(self.part(0, length));
+            written = sheet.len();
+            text[..written].copy_from_slice(sheet.as_bytes());
+            work[..numbers].fill(0);
+        }
+        self.command(Command::Sheet, &[1, length, text_bytes, numbers]);
+        self.print(&format!("lent {text_bytes} {numbers} {written} {} {}\n", byte_sum(&text), number_sum(&work)));
+    }
 }
 
-pub fn text() -> String {
-    let sheets: String = inputs().iter().map(|input| sheet(input)).collect();
-    let lent: String = (0..5).map(|change| lent(&BENCH, changed([1024, 22521], change))).collect();
-    sheets + &lent + &[3, 14, 4, 13, 12, 6, 11, 11, 12].map(made).concat()
+pub fn run(store: &mut Store) {
+    for input in inputs() {
+        store.put(0, &input);
+        store.sheet(input.len());
+    }
+    store.put(0, &BENCH);
+    (0..5).for_each(|change| store.lent(BENCH.len(), changed([1024, 22521], change)));
+    [3, 14, 4, 13, 12, 6, 11, 11, 12].into_iter().for_each(|noise| made(store, noise));
 }

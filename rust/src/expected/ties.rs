@@ -1,16 +1,14 @@
-//! What run_scheme reads and prints of the ties of the rounding, 2w = h and 2w = 3h: ciphertexts made with the secret, so that one place is read from a tie.
+//! The ties of the rounding, 2w = h and 2w = 3h, in run_scheme: ciphertexts made with the secret, so that one place is read from a tie.
 
-use super::report::{hex, pattern};
-use crate::arithmetic::bit;
-use crate::packing::{message_bytes, pack};
+use super::cases::{Call, Shown, SETS};
+use super::report::pattern;
+use super::store::{Command, Store, OPENED, SEALED, SECRET};
+use crate::packing::pack;
 use crate::parameters::{set, Set};
-use crate::scheme::{ciphertext_numbers, read_numbers, secret_numbers};
+use crate::scheme::{ciphertext_numbers, decrypt, read_numbers, secret_numbers};
 
 /// Where the pattern of the secret's seed begins.
 const SEED: usize = 5;
-
-/// How many bytes a case of the input has.
-const ROW: usize = 22;
 
 /// x to the power e modulo q.
 fn power(q: u64, x: u64, e: u64) -> u64 {
@@ -30,29 +28,29 @@ fn cases() -> impl Iterator<Item = (Set, u64)> {
     (1..13).map(|number| set(number).unwrap()).flat_map(|s| [1, 3].map(|times| (s, times * s.half() / 2)))
 }
 
-/// The transform of (x, 0, 0, ..) is x at every place: eight packed numbers fill as many bytes as a number has bits, and the others repeat them.
-fn row(s: &Set, w: u64) -> Vec<u8> {
-    let mut row = vec![s.width() as u8];
-    row.extend(pack(&[made(s, w).0; 8], s.width()));
-    row.resize(ROW, 0);
-    row
-}
-
-/// The bytes to be repeated, each time after their count.
-pub fn input() -> Vec<u8> {
-    cases().flat_map(|(s, w)| row(&s, w)).collect()
-}
-
-fn line(s: &Set, w: u64) -> String {
+/// Makes the ciphertext and reads it. The transform of (x, 0, 0, ..) is x at every place: eight packed numbers fill as many bytes as a number has bits, and
+/// the others repeat them. Decapsulation does not show what it reads, so in the key exchange the step that reads is called.
+fn tie(store: &mut Store, s: &Set, w: u64) {
     let (x, place) = made(s, w);
-    let ciphertext = [pack(&vec![x; s.sizes[1]], s.width()), vec![0; s.d]].concat();
-    let (c1, c2) = ciphertext_numbers(s, &ciphertext);
-    let read = read_numbers(s, &pattern(32, SEED), &c1, &c2).unwrap();
-    assert_eq!(read[place] as u64, w);
-    let bits: Vec<u32> = read.iter().map(|&w| bit(s, w)).collect();
-    format!("tie {} done {}\n", s.number, hex(&message_bytes(&bits)))
+    let [_, _, bytes, work, _] = SETS[s.number];
+    let end = if s.is_exchange() { bytes - 32 } else { bytes };
+    store.fill_pattern(SECRET, 32, SEED);
+    store.repeat(SEALED, end - s.d, &pack(&[x; 8], s.width()));
+    store.repeat(SEALED + end - s.d, s.d, &[0]);
+    let (c1, c2) = ciphertext_numbers(s, store.part(SEALED, end));
+    assert_eq!(read_numbers(s, store.part(SECRET, 32), &c1, &c2).unwrap()[place] as u64, w);
+    store.text(&format!("tie {}", s.number));
+    if s.is_exchange() {
+        let message = decrypt(s, store.part(SECRET, 32), store.part(SEALED, end)).unwrap();
+        store.command(Command::Read, &[s.number, end, work]);
+        store.print(" done");
+        store.leave(OPENED, &message);
+    } else {
+        store.open(Call { is_exchange: false, number: s.number, change: 0, shown: Shown::Answer });
+    }
+    store.hex(OPENED, 32);
 }
 
-pub fn text() -> String {
-    cases().map(|(s, w)| line(&s, w)).collect()
+pub fn run(store: &mut Store) {
+    cases().for_each(|(s, w)| tie(store, &s, w));
 }

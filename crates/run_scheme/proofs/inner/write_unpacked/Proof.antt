@@ -9,8 +9,8 @@ use Rattle.sets.specs.Rules.{Rules}
 use Rattle.sets.specs.Derived.{publicKeyBytes}
 use Rattle.sets.proofs.Rules.{rules-of}
 use Rattle.scheme.specs.Answers.{workLength}
-use Rattle.run_scheme.proofs.unpacked.write.Statement.{statement}
-use Rattle.run_scheme.proofs.unpacked.write.Tie as tie
+use Rattle.run_scheme.proofs.inner.write_unpacked.Statement.{statement}
+use Rattle.run_scheme.proofs.inner.write_unpacked.Tie as tie
 
 -- the set's numbers keep the rules
 kept : (c : tie.After-parameters-of) → Rules (c .parameters-of .result)
@@ -50,8 +50,8 @@ numbers-before-packing-requires c κs =
     let work = looked .key-below .kept .1 .1 .0 ∙ sixth .if6 .left ∙ sixth .before .work-length .ensures ∙ ap workLength table in
     (second .before .if1 .left, omega (arith, second .if2 .left), public, below, fourth .if4 .left, count, work)
 
-pub write-spec : {M : Type 1} → statement M
-write-spec =
+pub write-unpacked-spec : {M : Type 1} → statement M
+write-unpacked-spec =
     tie.close
     (tie.spec
     (λ c. search needs)

@@ -7,8 +7,8 @@ use Rattle.sets.specs.Rules.{Rules}
 use Rattle.sets.specs.Derived.{cpaCiphertextBytes}
 use Rattle.sets.proofs.Rules.{rules-of}
 use Rattle.scheme.specs.Answers.{workLength}
-use Rattle.run_scheme.proofs.ties.read.Statement.{statement}
-use Rattle.run_scheme.proofs.ties.read.Tie as tie
+use Rattle.run_scheme.proofs.inner.read.Statement.{statement}
+use Rattle.run_scheme.proofs.inner.read.Tie as tie
 
 -- the set's numbers keep the rules
 kept : (c : tie.After-parameters-of) → Rules (c .parameters-of .result)
