@@ -7,7 +7,6 @@ mod store;
 mod whole;
 
 use libc::STDIN_FILENO;
-ghost use Prim.Native.Nat.{_<_};
 
 // One command that prints or fills the store.
 fn run_plain(line: [usize; 16], store: &mut [u8]) {
