@@ -16,10 +16,10 @@ use Rattle.maths.proofs.Convolution.{transform-mod}
 use Rattle.maths.proofs.Radix.{whole-power}
 use Rattle.maths.proofs.Fourfold.{row-values}
 use Rattle.montgomery.specs.Scaled.{unscale}
-use Rattle.ntt_steps.specs.Steps.{SixteenReady, Roots, Sixteen, TurnReady, Turned}
+use Rattle.ntt_steps.specs.Steps.{SixteenReady, Roots, Sixteen, Exchanged}
 use Rattle.ntt_steps.proofs.Written.{Written}
 use Rattle.ntt_tables.specs.Tables.{RowTables}
-use Rattle.ntt_rows.specs.Rows.{RowReady, Row, Multiplied, ForwardRow, InverseRow}
+use Rattle.ntt_rows.specs.Rows.{RowReady, Row, MultiplyReady, Multiplied, ForwardRow, InverseRow}
 
 -- part holds the numbers of whole from start on
 pub record PartOf (start size : ℕ) (whole part : List ℕ) : Type 0 where
@@ -48,26 +48,27 @@ module _ {q k : ℕ} {tables from to : List ℕ} (ready : RowReady q k tables fr
       }
 
   -- the twist may begin
-  pub twist-ready : {powers columns rows : List ℕ} → PartOf 0 256 tables powers → length columns ≡ 256 → length rows ≡ 256 → TurnReady q k powers columns rows
-  twist-ready part columns-size rows-size =
+  pub twist-ready : {powers exchanged twisted : List ℕ} → PartOf 0 256 tables powers → length exchanged ≡ 256 → length twisted ≡ 256
+      → MultiplyReady q k powers exchanged twisted
+  twist-ready part from-size to-size =
       record {
         modulus = ready .modulus;
-        powers-size = part .length-is;
-        powers-below = record { each = λ i h. rw (part .entry i h) (ready .tables-below .each (0 + i) (omega arith)) };
-        from-size = columns-size;
-        to-size = rows-size;
+        by-size = part .length-is;
+        by-below = record { each = λ i h. rw (part .entry i h) (ready .tables-below .each (0 + i) (omega arith)) };
+        from-size = from-size;
+        to-size = to-size;
       }
 
   -- the rows may begin
-  pub rows-ready : {roots powers columns rows : List ℕ} → PartOf 256 8 tables roots → length rows ≡ 256 → Turned q powers columns rows
-      → SixteenReady q k roots rows to
-  rows-ready part size turned =
+  pub rows-ready : {roots powers exchanged twisted : List ℕ} → PartOf 256 8 tables roots → length twisted ≡ 256 → Multiplied q powers exchanged twisted
+      → SixteenReady q k roots twisted to
+  rows-ready part size multiplied =
       record {
         modulus = ready .modulus;
         roots-size = part .length-is;
         roots-below = record { each = λ i h. rw (part .entry i h) (ready .tables-below .each (256 + i) (omega arith)) };
         from-size = size;
-        from-below = turned .below;
+        from-below = multiplied .below;
         to-size = ready .to-size;
       }
 
@@ -79,15 +80,15 @@ column-roots {v = v} powers part =
       minus = rw pow-mul (powers .minus);
     }
 
--- columns, twist and rows
-pub row-steps : {q : ℕ} {tables roots powers roots' from columns rows to : List ℕ} → PartOf 256 8 tables roots → PartOf 0 256 tables powers
-    → PartOf 256 8 tables roots'
-    → Sixteen q roots from columns → Turned q powers columns rows → Sixteen q roots' rows to → Row q tables from to
-row-steps {q} {tables} {from = from} {columns} {rows} {to} roots powers roots' first twist second =
+-- columns, the exchange of columns and rows, twist and rows
+pub row-steps : {q : ℕ} {tables roots powers roots' from columns exchanged twisted to : List ℕ} → PartOf 256 8 tables roots → PartOf 0 256 tables powers
+    → PartOf 256 8 tables roots' → Sixteen q roots from columns → Exchanged columns exchanged → Multiplied q powers exchanged twisted
+    → Sixteen q roots' twisted to → Row q tables from to
+row-steps {q} {tables} {from = from} {columns} {twisted = twisted} {to} roots powers roots' first exchange twist second =
     record {
       values = λ v held.
-          row-values v (at from) (at columns) (at rows) (at to) (whole-power 128 v (held .minus)) (first .values (v ^ 16) (column-roots held roots))
-          (λ a b h l. mod-trans (twist .values a b h l)
+          row-values v (at from) (at columns) (at twisted) (at to) (whole-power 128 v (held .minus)) (first .values (v ^ 16) (column-roots held roots))
+          (λ a b h l. mod-trans (rw (exchange .values a b h l) at (twist .values (16 * a + b) (omega arith)))
           (mod-mul (mod-refl _) (rw (powers .entry (16 * a + b) (omega arith), zero-add) (held .twist a b h l))))
           (second .values (v ^ 16) (column-roots held roots'));
       below = second .below;

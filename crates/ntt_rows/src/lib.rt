@@ -7,18 +7,6 @@ ghost use Rattle.maths.specs.Vector.{at, tabulate};
 ghost use Rattle.montgomery.specs.Scaled.{unscale, Modulus};
 ghost use Rattle.ntt_rows.specs.Rows.{RowReady, Row, MultiplyReady, Multiplied, ForwardReady, ForwardRow, InverseReady, InverseRow};
 
-// The transform of a row of numbers below 2 · q, in natural order. `tables` has 256 powers for the twist and 8 for the columns, in scaled form.
-fn transform_row(to: &mut [u32], from: &[u32], tables: &[u32], q: u32, k: u32)
-    requires { ⌜ RowReady q k (now tables) (now from) (now to) ⌝ }
-    ensures { λ _. ⌜ Row q (now (tables .entry)) (now (from .entry)) (now (to .exit)) ⌝ }
-{
-    let mut columns = [0u32; 256];
-    let mut rows = [0u32; 256];
-    ntt_steps::sixteen(&mut columns, from, &tables[256..264], q, k);
-    ntt_steps::turn(&mut rows, &columns, &tables[0..256], q, k);
-    ntt_steps::sixteen(to, &rows, &tables[256..264], q, k);
-}
-
 // Multiplies each number by the number that `by` has the scaled form of at its place.
 fn multiply(to: &mut [u32], from: &[u32], by: &[u32], q: u32, k: u32)
     requires { ⌜ MultiplyReady q k (now by) (now from) (now to) ⌝ }
@@ -29,6 +17,19 @@ fn multiply(to: &mut [u32], from: &[u32], by: &[u32], q: u32, k: u32)
         to[i] = montgomery::product(from[i], by[i], q, k);
         i += 1;
     }
+}
+
+// The transform of a row of numbers below 2 · q, in natural order. `tables` has 256 powers for the twist and 8 for the columns, in scaled form.
+fn transform_row(to: &mut [u32], from: &[u32], tables: &[u32], q: u32, k: u32)
+    requires { ⌜ RowReady q k (now tables) (now from) (now to) ⌝ }
+    ensures { λ _. ⌜ Row q (now (tables .entry)) (now (from .entry)) (now (to .exit)) ⌝ }
+{
+    let mut numbers = [0u32; 256];
+    let mut exchanged = [0u32; 256];
+    ntt_steps::sixteen(&mut numbers, from, &tables[256..264], q, k);
+    ntt_steps::exchange(&mut exchanged, &numbers);
+    multiply(&mut numbers, &exchanged, &tables[0..256], q, k);
+    ntt_steps::sixteen(to, &numbers, &tables[256..264], q, k);
 }
 
 // Makes residues of all numbers, each times the number that `by` is the scaled form of.

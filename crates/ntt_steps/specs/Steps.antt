@@ -1,4 +1,4 @@
--- The steps of the transform of a row: 16 transforms of 16 numbers in two halves, and the twist between them (003 section 3.2.2).
+-- The steps of the transform of a row: 16 transforms of 16 numbers in two halves, and the exchange of rows and columns (003 section 3.2.2).
 -- Assumes nothing.
 use mathlib.Core.Path.{_≡_}
 use mathlib.Core.Logic.{_⊎_}
@@ -68,21 +68,11 @@ pub record Sixteen (q : ℕ) (roots from to : List ℕ) : Type 0 where
       → Mod q (at to (16 * i + c)) (transformAt 16 v (λ j. at from (16 * j + c)) i)
   pub below : AllBelow (32 * q) 256 to
 
--- 256 numbers and 256 scaled powers
-pub record TurnReady (q k : ℕ) (powers from to : List ℕ) : Type 0 where
-  pub modulus : Modulus q k
-  pub powers-size : length powers ≡ 256
-  pub powers-below : AllBelow q 256 powers
-  pub from-size : length from ≡ 256
-  pub to-size : length to ≡ 256
-
--- row a of the twist is done, and what stands outside it is as in old
-pub record TurnedRow (q : ℕ) (powers from : List ℕ) (a : ℕ) (old to : List ℕ) : Type 0 where
-  pub values : (b : ℕ) → b < 16 → Mod q (at to (16 * a + b)) (at from (16 * b + a) * unscale q (at powers (16 * a + b)))
-  pub below : (b : ℕ) → b < 16 → at to (16 * a + b) < 2 * q
+-- row a of the exchange is done, and what stands outside it is as in old
+pub record ExchangedRow (from : List ℕ) (a : ℕ) (old to : List ℕ) : Type 0 where
+  pub values : (b : ℕ) → b < 16 → at to (16 * a + b) ≡ at from (16 * b + a)
   pub others : (i : ℕ) → (i < 16 * a) ⊎ (16 * a + 16 ≤ i) → at to i ≡ at old i
 
--- the twist
-pub record Turned (q : ℕ) (powers from to : List ℕ) : Type 0 where
-  pub values : (a b : ℕ) → a < 16 → b < 16 → Mod q (at to (16 * a + b)) (at from (16 * b + a) * unscale q (at powers (16 * a + b)))
-  pub below : AllBelow (2 * q) 256 to
+-- the exchange of rows and columns
+pub record Exchanged (from to : List ℕ) : Type 0 where
+  pub values : (a b : ℕ) → a < 16 → b < 16 → at to (16 * a + b) ≡ at from (16 * b + a)

@@ -1,11 +1,13 @@
-// The steps of the transform of a row of 256 numbers: 16 transforms of 16 numbers, and the twist between two such steps (003 section 3.2.2, applied to a
-// row). Each loop goes over consecutive places, so that the compiler works on several at a time. Numbers are kept below small multiples of q.
+// The steps of the transform of a row of 256 numbers: 16 transforms of 16 numbers, and the exchange of rows and columns between two such steps (003
+// section 3.2.2, applied to a row). Loops with products go over consecutive places, so that the compiler works on several at a time. Numbers are kept below
+// small multiples of q.
 ghost use mathlib.Core.Path.{_≡_};
 ghost use Prim.Native.Nat.{_*_, _%_, _^_, _<_};
+ghost use lib.ListN.{length};
 ghost use Rattle.maths.specs.Congruence.{Mod};
 ghost use Rattle.maths.specs.Butterfly.{difference};
 ghost use Rattle.montgomery.specs.Scaled.{unscale, Modulus};
-ghost use Rattle.ntt_steps.specs.Steps.{StepReady, Part, Parts, Quarters, SixteenReady, Sixteen, TurnReady, TurnedRow, Turned};
+ghost use Rattle.ntt_steps.specs.Steps.{StepReady, Part, Parts, Quarters, SixteenReady, Sixteen, ExchangedRow, Exchanged};
 
 // The difference of two numbers below `lift`, a multiple of q, times the number that `w` is the scaled form of.
 fn turned_difference(a: u32, b: u32, lift: u32, w: u32, q: u32, k: u32) -> u32
@@ -89,27 +91,27 @@ pub fn sixteen(to: &mut [u32], from: &[u32], roots: &[u32], q: u32, k: u32)
     wide(to, &half, roots, 8 * q, q, k);
 }
 
-// Row `a` of 16 of the twist: numbers that are 16 places apart come together, each times the power of the root for its place.
-fn turn_row(to: &mut [u32], from: &[u32], powers: &[u32], a: usize, q: u32, k: u32)
-    requires { ⌜ TurnReady q k (now powers) (now from) (now to) × (a < 16) ⌝ }
-    ensures { λ _. ⌜ TurnedRow q (now (powers .entry)) (now (from .entry)) a (now (to .entry)) (now (to .exit)) ⌝ }
+// Row `a` of 16 of the exchange: numbers that are 16 places apart come together.
+fn exchange_row(to: &mut [u32], from: &[u32], a: usize)
+    requires { ⌜ (length (now from) ≡ 256) × (length (now to) ≡ 256) × (a < 16) ⌝ }
+    ensures { λ _. ⌜ ExchangedRow (now (from .entry)) a (now (to .entry)) (now (to .exit)) ⌝ }
 {
     let start = 16 * a;
     let mut b: usize = 0;
     while b < 16 {
-        to[start + b] = montgomery::product(from[16 * b + a], powers[start + b], q, k);
+        to[start + b] = from[16 * b + a];
         b += 1;
     }
 }
 
-// The twist, which exchanges rows and columns.
-pub fn turn(to: &mut [u32], from: &[u32], powers: &[u32], q: u32, k: u32)
-    requires { ⌜ TurnReady q k (now powers) (now from) (now to) ⌝ }
-    ensures { λ _. ⌜ Turned q (now (powers .entry)) (now (from .entry)) (now (to .exit)) ⌝ }
+// Exchanges rows and columns of 16 numbers.
+pub fn exchange(to: &mut [u32], from: &[u32])
+    requires { ⌜ (length (now from) ≡ 256) × (length (now to) ≡ 256) ⌝ }
+    ensures { λ _. ⌜ Exchanged (now (from .entry)) (now (to .exit)) ⌝ }
 {
     let mut a: usize = 0;
     while a < 16 {
-        turn_row(to, from, powers, a, q, k);
+        exchange_row(to, from, a);
         a += 1;
     }
 }
