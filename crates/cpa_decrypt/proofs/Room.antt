@@ -1,8 +1,11 @@
 -- The widths of the numbers of a ciphertext, its bytes, and the room in the work slice and for the tables of the transforms.
 -- Assumes nothing.
-use mathlib.Core.Path.{_≡_}
-use Prim.Native.Nat.{ℕ, _+_, _/_, _≤_}
+use mathlib.Core.Path.{_≡_, ap, _∙_}
+use mathlib.Core.List.{List}
+use Prim.Native.Nat.{ℕ, _+_, _-_, _*_, _/_, _^_, _≤_}
 use native.Mathlib.Omega.{arith}
+use lib.Pow.{pow-add}
+use Rattle.maths.specs.Vector.{AllBelow}
 use Rattle.sets.specs.declared.Parameters.{Parameters}
 use Rattle.sets.specs.Derived.{cpaCiphertextBytes}
 use Rattle.sets.specs.Rules.{Rules, ByteRules}
@@ -10,7 +13,9 @@ use Rattle.sets.specs.Table.{setOf, IsSet}
 use Rattle.sets.proofs.Rules.{rules, byteRules}
 use Rattle.sets.proofs.Transforms.{second-size, third-size}
 use Rattle.ntt_products.specs.Placed.{tableLength}
-use Rattle.packing.specs.Dropped.{Widths}
+use Rattle.packing.specs.Digits.{unpack}
+use Rattle.packing.specs.Dropped.{Widths, unpackDropped}
+use Rattle.packing.proofs.Laws.{unpack-below, unpackDropped-below}
 use Rattle.scheme.specs.Encryption.{firstBytes}
 use Rattle.scheme.specs.Answers.{workLength}
 
@@ -32,6 +37,22 @@ module _ (p : Parameters) where
 
     pub second-widths : Widths (p .width) (p .cmp)
     second-widths = record { least = omega (arith, bytes .kept-byte); most = omega (arith, rules .width-most) }
+
+  -- a number of all its bits is below 2 · q
+  module _ (rules : Rules p) where
+    width-double : 2 ^ p .width ≤ 2 * p .q
+    width-double =
+        let one-more : p .width ≡ p .width - 1 + 1 = omega (arith, rules .kept) in
+        let twice : 2 ^ p .width ≡ 2 ^ (p .width - 1) * 2 = ap (λ (n : ℕ). 2 ^ n) one-more ∙ pow-add 2 (p .width - 1) 1 in
+        omega (arith, twice, rules .width-least)
+
+    -- so are those of ĉ1 and of c2
+    pub first-double : (count : ℕ) (bytes : List ℕ) → AllBelow (2 * p .q) count (unpack (p .width) count bytes)
+    first-double count bytes = record { each = λ j h. omega (arith, unpack-below (p .width) count bytes j, width-double) }
+
+    pub second-double : (count : ℕ) (bytes : List ℕ) → AllBelow (2 * p .q) count (unpackDropped (p .width) (p .cmp) count bytes)
+    second-double count bytes =
+        record { each = λ j h. omega (arith, unpackDropped-below (p .width) (p .cmp) count bytes (omega (arith, rules .kept)) j, width-double) }
 
 -- no more rows of 256 numbers for fewer numbers
 rows-rising : (C D ρ : ℕ) → ρ ≡ 256 → C ≤ D → C / ρ ≤ D / ρ

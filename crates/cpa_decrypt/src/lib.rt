@@ -3,7 +3,7 @@ use calls::Answer;
 use samplers::Advance;
 use sets::Parameters;
 ghost use mathlib.Core.Path.{_≡_};
-ghost use Prim.Native.Nat.{_+_, _≤_, _<_};
+ghost use Prim.Native.Nat.{_+_, _*_, _^_, _≤_, _<_};
 ghost use lib.ListN.{length, take};
 ghost use Rattle.calls.specs.Outcome.{outcome, leaves};
 ghost use Rattle.maths.specs.Vector.{AllBelow};
@@ -17,14 +17,14 @@ ghost use Rattle.scheme.specs.Encryption.{firstBytes, cipherFirst, decryptedMes
 ghost use Rattle.scheme.specs.Answers.{workLength, onlyResidues, secretDraw};
 ghost use Rattle.cpa_decrypt.specs.Decrypted.{reduced, firstCorrelations, differenceBit, differenceBits, decryptedBitsFrom, decryptedMessageFrom};
 
-// Takes each number modulo q.
+// Takes each number modulo q; all of them are below 2 · q.
 fn reduce_all(xs: &mut [u32], q: u32)
-    requires { ⌜ 0 < q ⌝ }
+    requires { ⌜ AllBelow (2 * q) (length (now xs)) (now xs) × (q < 2 ^ 24) ⌝ }
     ensures { λ _. ⌜ now (xs .exit) ≡ reduced q (now (xs .entry)) ⌝ }
 {
     let mut i: usize = 0;
     while i < xs.len() {
-        xs[i] = xs[i] % q;
+        xs[i] = residues::reduce_once(xs[i], q);
         i += 1;
     }
 }
@@ -83,17 +83,18 @@ fn correlate_first(set: usize, ciphertext: &[u8], stored: &[u32], tables: &mut [
 
 // The bit that a number of c2 is read as, given the correlation at its place.
 fn difference_bit(p: Parameters, x: u32, y: u32) -> u32
-    requires { ⌜ Rules p × ByteRules p × (y < p .q) ⌝ }
+    requires { ⌜ Rules p × ByteRules p × (x < 2 * p .q) × (y < p .q) ⌝ }
     ensures { λ r. ⌜ r ≡ differenceBit p x y ⌝ }
 {
     let h = sets::derived::half_modulus(p);
-    residues::threshold_bit(h, residues::subtract(x % p.q, y, p.q))
+    let reduced = residues::reduce_once(x, p.q);
+    residues::threshold_bit(h, residues::subtract(reduced, y, p.q))
 }
 
 // Reads each number of c2 as a bit, given the correlations.
 fn read_differences(set: usize, second: &mut [u32], correlations: &[u32])
     requires { ⌜ (1 ≤ set) × IsSet set × (length (now second) ≡ setOf set .d) × (setOf set .d ≤ length (now correlations))
-        × AllBelow (setOf set .q) (setOf set .d) (now correlations) ⌝ }
+        × AllBelow (2 * setOf set .q) (setOf set .d) (now second) × AllBelow (setOf set .q) (setOf set .d) (now correlations) ⌝ }
     ensures { λ _. ⌜ now (second .exit) ≡ differenceBits (setOf set) (now (second .entry)) (now (correlations .entry)) ⌝ }
 {
     let p = sets::parameters_of(set);

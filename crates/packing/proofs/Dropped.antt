@@ -3,7 +3,7 @@
 use mathlib.Core.Path.{_≡_, refl, sym, ap, _∙_}
 use mathlib.Core.List.{List, [], _∷_, map}
 use Prim.Native.Nat.{ℕ, zero, suc, _+_, _-_, _*_, _/_, _%_, _^_, _≤_, _<_}
-use native.Mathlib.Nat.{div-one, zero-div, mul-one, sub-zero, sub-add-cancel, div-lt-iff-lt-mul, mod-add-div', mod-lt}
+use native.Mathlib.Nat.{div-one, zero-div, zero-mul, mul-one, mul-lt-mul-of-pos-right, sub-zero, sub-add-cancel, div-lt-iff-lt-mul, mod-add-div', mod-lt}
 use native.Mathlib.Omega.{arith}
 use lib.ListN.{length, length-map}
 use lib.Pow.{pow-add, pow-pos}
@@ -11,7 +11,7 @@ use Rattle.maths.specs.Vector.{at, tabulate}
 use Rattle.maths.proofs.Vector.{tabulate-length, tabulate-at, map-at}
 use Rattle.packing.specs.Digits.{digits, pack, unpack, fourBytes, Digit}
 use Rattle.packing.specs.Dropped.{chop, highParts, packDropping, unpackDropped, Widths}
-use Rattle.packing.proofs.Digits.{unpack-pack, packed-byte, unpacked-number, pack-length, unpack-length}
+use Rattle.packing.proofs.Digits.{unpack-pack, packed-byte, unpacked-number, pack-length, unpack-length, unpack-below}
 use Rattle.packing.proofs.Position.{Position}
 
 -- what is left of a number and what is dropped make the number
@@ -35,11 +35,14 @@ high-at cmp [] i = sym (zero-div (2 ^ cmp))
 high-at cmp (x ∷ xs) zero = refl
 high-at cmp (x ∷ xs) (suc i) = high-at cmp xs i
 
+-- the bits that are left and those that are dropped are all bits
+both-powers : (width cmp : ℕ) → cmp ≤ width → 2 ^ (width - cmp) * 2 ^ cmp ≡ 2 ^ width
+both-powers width cmp h = sym (pow-add 2 (width - cmp) cmp) ∙ ap (λ (n : ℕ). 2 ^ n) (sub-add-cancel h)
+
 -- the high parts have the bits that are left
 pub high-digit : (width cmp : ℕ) (xs : List ℕ) → cmp ≤ width → Digit width xs → Digit (width - cmp) (highParts cmp xs)
 high-digit width cmp xs h digit k =
-    let split : 2 ^ (width - cmp) * 2 ^ cmp ≡ 2 ^ width = sym (pow-add 2 (width - cmp) cmp) ∙ ap (λ (n : ℕ). 2 ^ n) (sub-add-cancel h) in
-    rw (high-at cmp xs k) (div-lt-iff-lt-mul (pow-pos cmp) .1 (rw split (digit k)))
+    rw (high-at cmp xs k) (div-lt-iff-lt-mul (pow-pos cmp) .1 (rw (both-powers width cmp h) (digit k)))
 
 -- as many high parts as numbers
 high-length : (cmp : ℕ) (xs : List ℕ) → length (highParts cmp xs) ≡ length xs
@@ -106,3 +109,16 @@ packDropping-length width cmp count xs = pack-length (width - cmp) count _
 pub unpackDropped-length : (width cmp count : ℕ) (bytes : List ℕ) → length (unpackDropped width cmp count bytes) ≡ count
 unfolding unpackDropped
 unpackDropped-length width cmp count bytes = rw length-map (unpack-length (width - cmp) count bytes)
+
+-- a number moved to its place
+moved-at : (cmp : ℕ) (xs : List ℕ) (i : ℕ) → at (map (λ x. x * 2 ^ cmp) xs) i ≡ at xs i * 2 ^ cmp
+moved-at cmp [] i = sym (zero-mul (2 ^ cmp))
+moved-at cmp (x ∷ xs) zero = refl
+moved-at cmp (x ∷ xs) (suc i) = moved-at cmp xs i
+
+-- unpacked numbers have width bits
+pub unpackDropped-below : (width cmp count : ℕ) (bytes : List ℕ) → cmp ≤ width → Digit width (unpackDropped width cmp count bytes)
+unfolding unpackDropped
+unpackDropped-below width cmp count bytes h k =
+    rw (moved-at cmp (unpack (width - cmp) count bytes) k, ← both-powers width cmp h)
+    (mul-lt-mul-of-pos-right (unpack-below (width - cmp) count bytes k) (pow-pos cmp))

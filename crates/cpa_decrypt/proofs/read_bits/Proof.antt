@@ -8,7 +8,7 @@ use Rattle.cpa_decrypt.specs.Decrypted.{differenceBits, decryptedBitsFro
 use Rattle.sets.proofs.Transforms.{third-size}
 use Rattle.cpa_decrypt.proofs.First.{front-below}
 use Rattle.cpa_decrypt.proofs.Bits.{differenceBits-front, second-unpacked}
-use Rattle.cpa_decrypt.proofs.Room.{second-widths}
+use Rattle.cpa_decrypt.proofs.Room.{second-widths, second-double}
 use borrow.Author.Needs.{needs}
 use Rattle.cpa_decrypt.proofs.read_bits.Statement.{statement}
 use Rattle.cpa_decrypt.proofs.read_bits.Tie as tie
@@ -32,6 +32,7 @@ read-differences-requires c κs =
       start .pre .1,
       omega (arith, at-unpack-dropped .unpack-dropped .kept, start .pre .6),
       omega (arith, at-correlate-first .correlate-first .kept, start .pre .5, third-size (setOf set), kept .holds3, kept .some-n, kept .some-k),
+      rw (at-unpack-dropped .unpack-dropped .ensures, at-parameters-of .parameters-of .ensures, start .pre .6) (second-double (setOf set) kept _ _),
       front-below (setOf set) (start .args .stored .now) (start .args .ciphertext .now) _ (omega (arith, kept .odd))
           (at-correlate-first .correlate-first .ensures),
     )

@@ -35,8 +35,12 @@ difference-bit-requires c κs =
     let set = start .args .set in
     let turn = c .before .before .before .loop in
     let below : turn .j < setOf set .d = omega (arith, turn .inv .kept-length, c .before .before .loop-test .taken, start .pre .2) in
-    rw (c .before .before .before .before .parameters-of .ensures)
-    (rules set (start .pre .1), byteRules set (start .pre .0) (start .pre .1), start .pre .4 .each (turn .j) below)
+    rw (c .before .before .before .before .parameters-of .ensures) (
+      rules set (start .pre .1),
+      byteRules set (start .pre .0) (start .pre .1),
+      rw (ahead (turn .inv)) (start .pre .4 .each (turn .j) below),
+      start .pre .5 .each (turn .j) below,
+    )
 
 loop-again : tie.Need-loop-again Inv-loop μ-loop
 loop-again c =

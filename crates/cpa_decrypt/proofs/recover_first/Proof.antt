@@ -2,13 +2,13 @@
 -- Assumes nothing.
 use mathlib.Core.Path.{_∙_}
 use Prim.Native.Nat.{_+_}
-use native.Mathlib.Omega.{arith}
+use lib.ListN.{length}
 use Rattle.sets.specs.Table.{setOf}
 use Rattle.sets.proofs.Rules.{rules, byteRules}
 use Rattle.packing.proofs.Laws.{unpack-length}
 use Rattle.cpa_decrypt.proofs.First.{few}
 use Rattle.cpa_decrypt.proofs.Modulo.{reduced-placed, recovered-reduced}
-use Rattle.cpa_decrypt.proofs.Room.{first-widths}
+use Rattle.cpa_decrypt.proofs.Room.{first-widths, first-double}
 use borrow.Author.Needs.{needs}
 use Rattle.cpa_decrypt.proofs.recover_first.Statement.{statement}
 use Rattle.cpa_decrypt.proofs.recover_first.Tie as tie
@@ -21,8 +21,13 @@ unpack-into-requires c κs =
 
 reduce-all-requires : tie.Need-reduce-all-requires
 reduce-all-requires c κs =
-    let start = c .before .before .before .before .before .before .before .before .before in
-    rw (c .before .before .before .before .before .parameters-of .ensures) (omega (arith, rules (start .args .set) (start .pre .1) .odd))
+    let unpacked = c .before .before .before in
+    let known = unpacked .before .before in
+    let start = known .before .before .before .before in
+    let kept = rules (start .args .set) (start .pre .1) in
+    let p = setOf (start .args .set) in
+    rw (unpacked .unpack-into .ensures, known .parameters-of .ensures)
+    (rw (unpack-length (p .width) (length (start .args .x .now)) (start .args .packed .now)) (first-double p kept _ (start .args .packed .now)), kept .small)
 
 recover-first-requires : tie.Need-recover-first-requires
 recover-first-requires c κs =

@@ -21,13 +21,22 @@ abbrev μ-loop : tie.MeasureT-loop
 loop-holds : tie.Need-loop-holds Inv-loop μ-loop
 loop-holds c = filled-none (reduced-length _ _) (omega arith)
 
-loop-again : tie.Need-loop-again Inv-loop μ-loop
-loop-again c =
-    let start = c .before .before .before in
+reduce-once-requires : tie.Need-reduce-once-requires Inv-loop μ-loop
+reduce-once-requires c κs =
+    let start = c .before .before .before .before in
     let turn = c .before .before .loop in
     let below : turn .i < length (start .args .xs .now) = omega (arith, turn .inv .kept-length, c .before .loop-test .taken) in
+    (rw (ahead (turn .inv)) (start .pre .0 .each (turn .i) below), start .pre .1)
+
+loop-again : tie.Need-loop-again Inv-loop μ-loop
+loop-again c =
+    let start = c .before .before .before .before .before in
+    let turn = c .before .before .before .loop in
+    let below : turn .i < length (start .args .xs .now) = omega (arith, turn .inv .kept-length, c .before .before .loop-test .taken) in
     filled-more 0 (turn .inv) below (sym (zero-add (turn .i)))
-    (ap (λ (x : ℕ). x % start .args .q) (ahead (turn .inv)) ∙ sym (reduced-at (start .args .q) (start .args .xs .now) (turn .i) below))
+    (c .reduce-once .ensures
+    ∙ ap (λ (x : ℕ). x % start .args .q) (ahead (turn .inv))
+    ∙ sym (reduced-at (start .args .q) (start .args .xs .now) (turn .i) below))
 
 returns : tie.Need-returns Inv-loop μ-loop
 returns c = filled-whole (c .before .loop .inv) refl (omega (arith, c .loop-test .left, c .before .loop .inv .kept-length))
@@ -41,7 +50,7 @@ reduce-all-spec =
     loop-holds
     (λ c. search needs)
     (λ c. search needs)
-    (λ c. search needs)
+    reduce-once-requires
     (λ c. search needs)
     (λ c. search needs)
     (λ c. search needs)
