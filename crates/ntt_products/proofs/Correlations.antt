@@ -7,19 +7,25 @@ use native.Mathlib.Nat.{mod-lt}
 use native.Mathlib.Omega.{arith}
 use lib.ListN.{length, take}
 use lib.Seq.{length-take-le, getD-take}
-use Rattle.maths.specs.Vector.{at, AllBelow}
+use Rattle.maths.specs.Vector.{at, tabulate, AllBelow}
 use Rattle.maths.specs.Product.{correlation}
 use Rattle.maths.specs.Congruence.{Mod}
 use Rattle.maths.proofs.Vector.{tabulate-at, tabulate-unique}
-use Rattle.maths.proofs.Congruence.{mod-remainder}
+use Rattle.maths.specs.Transform.{recover}
+use Rattle.maths.proofs.Congruence.{mod-eq}
 use Rattle.maths.proofs.Transform.{recover-length, recover-product}
+use Rattle.sets.specs.declared.Parameters.{Parameters}
+use Rattle.sets.specs.Rules.{Rules}
 use Rattle.sets.specs.Table.{setOf, IsSet}
-use Rattle.sets.specs.Derived.{transformSize}
-use Rattle.ntt_products.specs.Stored.{rowCount, sent, recoveredInverse, products, correlations}
-use Rattle.ntt_products.specs.Placed.{Placed}
+use Rattle.sets.specs.Derived.{transformSize, transformRoot}
+use Rattle.sets.proofs.Rules.{rules}
+use Rattle.montgomery.specs.Scaled.{scale}
+use Rattle.ntt_products.specs.Stored.{rowCount, sizeInverse, sent, recoveredInverse, products, correlations}
+use Rattle.ntt_products.specs.Placed.{Placed, SetLent, SetTables}
 use Rattle.ntt_products.proofs.Pointwise.{products-at}
-use Rattle.ntt_products.proofs.Sizes.{size-rows, some-modulus, rows-root}
-use Rattle.ntt_products.proofs.Vectors.{sent-placed}
+use Rattle.ntt_products.proofs.Sizes.{size-rows, some-modulus, rows-root, rules-odd}
+use Rattle.ntt_products.proofs.Scaling.{recover-scaled, unscaled-product}
+use Rattle.ntt_products.proofs.Vectors.{sent-placed, products-placed}
 use Rattle.ntt_products.proofs.Recovered.{recoveredInverse-take}
 
 module _ (set : ℕ) (low : IsSet set) (i : ℕ) where
@@ -38,16 +44,51 @@ module _ (set : ℕ) (low : IsSet set) (i : ℕ) where
       ∙ recover-product ρ (rowCount (setOf set) i) (rows-root set low i) D D x stored z j (omega arith) (omega arith) (omega arith) (omega arith)
       (λ k l. same k (omega arith)))
 
-  -- the first n numbers sent, multiplied by a stored vector and recovered
+  -- the first n numbers sent, multiplied by a stored vector, which is taken for numbers in scaled form, and recovered with the scaled inverse of the size
   pub correlated : (n m : ℕ) (old stored : List ℕ) → 0 < n → Placed (setOf set) i n old → n + m ≤ transformSize (setOf set) i + 1
-      → recoveredInverse (setOf set) i m (products (setOf set .q) (sent (setOf set) i (take n old)) stored) ≡ correlations (setOf set .q) (take n old)
-      (recoveredInverse (setOf set) i (transformSize (setOf set) i) stored) m
+      → recover (setOf set .q) (setOf set .row) (rowCount (setOf set) i) (transformRoot (setOf set) i) (scale (setOf set .q) (sizeInverse (setOf set) i)) m
+      (products (setOf set .q) (sent (setOf set) i (take n old)) stored)
+      ≡ correlations (setOf set .q) (take n old) (recoveredInverse (setOf set) i (transformSize (setOf set) i) stored) m
+  unfolding recoveredInverse
   correlated n m old stored some placed fits =
+      let q : ℕ = setOf set .q in
+      let D : ℕ = transformSize (setOf set) i in
+      let x : List ℕ = sent (setOf set) i (take n old) in
+      let whole : List ℕ = tabulate D (λ k. at x k * at stored k) in
+      let rows : rowCount (setOf set) i * setOf set .row ≡ D = size-rows set low i in
+      let size : length x ≡ D = sent-placed set low i (take n old) .size in
       let short : length (take n old) ≡ n = length-take-le n old (omega (arith, placed .size, placed .inside)) in
-      sym (recoveredInverse-take set i m _ (omega arith))
-      ∙ correlations-first (take n old) stored _ m (omega arith) (omega arith)
-      (λ k h. rw (products-at (setOf set .q) (sent (setOf set) i (take n old)) stored k (rw (sent-placed set low i (take n old) .size) h))
-      (mod-remainder (setOf set .q) _))
+      recover-scaled (rules-odd (setOf set) (rules set low)) (setOf set .row) (rowCount (setOf set) i) (transformRoot (setOf set) i)
+      (sizeInverse (setOf set) i) m (products q x stored) whole (omega arith)
+      (λ k h.
+      let inside : k < D = omega arith in
+      rw (products-at q x stored k (omega arith), tabulate-at D (λ l. at x l * at stored l) k inside) (unscaled-product q (at x k) (at stored k)))
+      ∙ sym (recoveredInverse-take set i m whole (omega arith))
+      ∙ correlations-first (take n old) stored whole m (omega arith) (omega arith) (λ k h. mod-eq (tabulate-at D (λ l. at x l * at stored l) k h))
+
+  -- p are the set's parameters, e is the scaled inverse of the size, and new is a vector of products
+  module _ (n : ℕ) (old stored : List ℕ) {p : Parameters} {e : ℕ} {new tables : List ℕ} (known : p ≡ setOf set) (scaled : e ≡ scale (p .q) (sizeInverse p i))
+      (made : new ≡ products (setOf set .q) (sent (setOf set) i (take n old)) stored) where
+    -- it may be recovered
+    pub products-recoverable : {m : ℕ} → SetLent (setOf set) i tables → m ≤ transformSize (setOf set) i
+        → Rules p × SetLent p i tables × Placed p i (transformSize p i) new × (e < p .q) × (m ≤ transformSize p i)
+    unfolding scale
+    products-recoverable lent fits =
+        rw (scaled, made, known) (
+          rules set low,
+          lent,
+          products-placed set low i stored (sent-placed set low i (take n old)),
+          mod-lt _ (omega (arith, some-modulus set low i)),
+          fits,
+        )
+
+    -- and gives the correlations
+    pub products-recovered : (m : ℕ) (out : List ℕ) → SetTables (setOf set) i (transformRoot (setOf set) i) tables
+        → ((w : ℕ) → SetTables p i w tables → take m out ≡ recover (p .q) (p .row) (rowCount p i) w e m new) → 0 < n → Placed (setOf set) i n old
+        → n + m ≤ transformSize (setOf set) i + 1
+        → take m out ≡ correlations (setOf set .q) (take n old) (recoveredInverse (setOf set) i (transformSize (setOf set) i) stored) m
+    products-recovered m out root recovered some placed fits =
+        (rw (scaled, made, known) at recovered) _ root ∙ correlated n m old stored some placed fits
 
   -- correlations are residues
   pub correlations-below : (x y : List ℕ) (m : ℕ) → AllBelow (setOf set .q) m (correlations (setOf set .q) x y m)

@@ -1,5 +1,6 @@
 pub mod Pointwise
 pub mod Sizes
+pub mod Scaling
 pub mod Vectors
 pub mod Correlations
 pub mod Recovered

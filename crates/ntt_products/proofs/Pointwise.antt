@@ -7,6 +7,7 @@ use native.Mathlib.Nat.{mod-lt}
 use lib.ListN.{length}
 use Rattle.maths.specs.Vector.{at, AllBelow}
 use Rattle.maths.proofs.Vector.{tabulate-length, tabulate-at}
+use Rattle.montgomery.specs.Scaled.{unscale}
 use Rattle.ntt_products.specs.Stored.{products, accumulated}
 
 module _ (q : ℕ) (x y : List ℕ) where
@@ -16,7 +17,7 @@ module _ (q : ℕ) (x y : List ℕ) where
   products-length = tabulate-length (length x) _
 
   -- the product at a place
-  pub products-at : (k : ℕ) → k < length x → at (products q x y) k ≡ at x k * at y k % q
+  pub products-at : (k : ℕ) → k < length x → at (products q x y) k ≡ at x k * unscale q (at y k) % q
   unfolding products
   products-at k h = tabulate-at (length x) _ k h
 

@@ -56,42 +56,47 @@ bench-rows : (i : ℕ) → rowCount (setOf 0) i ≤ 16
 unfolding setOf table
 bench-rows i = by-size (setOf 0) i (λ D. D / 1 ≤ 16) (omega arith) (omega arith) (omega arith)
 
-module _ (set : ℕ) (low : IsSet set) (i : ℕ) where
-  -- the set keeps its rules
-  kept : Rules (setOf set)
-  kept = rules set low
+module _ (p : Parameters) (kept : Rules p) (i : ℕ) where
+  -- the rows together have the size
+  pub rows-size : rowCount p i * p .row ≡ transformSize p i
+  rows-size = by-size p i (λ D. D / p .row * p .row ≡ D) (kept .rows1) (kept .rows2) (kept .rows3)
 
+  -- a size is at least 2, and at most 3328
+  pub least-size : 2 ≤ transformSize p i
+  least-size =
+      let least : 2 ≤ p .d1 = omega (arith, kept .some-d, kept .some-k, kept .holds1) in
+      by-size p i (λ D. 2 ≤ D) least (omega (arith, kept .rising1)) (omega (arith, kept .rising1, kept .rising2))
+
+  pub most-size : transformSize p i ≤ 3328
+  most-size =
+      by-size p i (λ D. D ≤ 3328) (omega (arith, kept .rising1, kept .rising2, kept .most-d3)) (omega (arith, kept .rising2, kept .most-d3)) (kept .most-d3)
+
+  -- the size divides q − 1
+  size-divides : (p .q - 1) / transformSize p i * transformSize p i ≡ p .q - 1
+  size-divides = by-size p i (λ D. (p .q - 1) / D * D ≡ p .q - 1) (kept .divides1) (kept .divides2) (kept .divides3)
+
+  -- so its inverse is below q
+  pub inverse-below : sizeInverse p i < p .q
+  unfolding sizeInverse inverseSize
+  inverse-below =
+      let some : 0 < p .q - 1 = omega (arith, kept .prime .above) in
+      omega (arith, some-factor ((p .q - 1) / transformSize p i) (transformSize p i) (p .q - 1) size-divides some)
+
+-- the modulus is odd
+pub rules-odd : (p : Parameters) → Rules p → Odd (p .q)
+rules-odd p kept = record { odd = omega (arith, kept .odd); some = kept .prime .above; small = kept .small }
+
+module _ (set : ℕ) (low : IsSet set) (i : ℕ) where
   -- the rows together have the size
   pub size-rows : rowCount (setOf set) i * setOf set .row ≡ transformSize (setOf set) i
-  size-rows = by-size (setOf set) i (λ D. D / setOf set .row * setOf set .row ≡ D) (kept .rows1) (kept .rows2) (kept .rows3)
-
-  -- a size is at least 2
-  pub size-least : 2 ≤ transformSize (setOf set) i
-  size-least =
-      let least : 2 ≤ setOf set .d1 = omega (arith, kept .some-d, kept .some-k, kept .holds1) in
-      by-size (setOf set) i (λ D. 2 ≤ D) least (omega (arith, kept .rising1)) (omega (arith, kept .rising1, kept .rising2))
+  size-rows = rows-size (setOf set) (rules set low) i
 
   -- the modulus
   pub some-modulus : 1 < setOf set .q
-  some-modulus = kept .prime .above
+  some-modulus = rules set low .prime .above
 
   pub small-modulus : setOf set .q < 2 ^ 24
-  small-modulus = kept .small
-
-  -- a row has a number
-  pub some-row : 0 < setOf set .row
-  some-row = kept .some-row
-
-  -- the size divides q − 1
-  size-divides : (setOf set .q - 1) / transformSize (setOf set) i * transformSize (setOf set) i ≡ setOf set .q - 1
-  size-divides = by-size (setOf set) i (λ D. (setOf set .q - 1) / D * D ≡ setOf set .q - 1) (kept .divides1) (kept .divides2) (kept .divides3)
-
-  -- so its inverse is below q
-  pub inverse-below : sizeInverse (setOf set) i < setOf set .q
-  unfolding sizeInverse inverseSize
-  inverse-below =
-      let some : 0 < setOf set .q - 1 = omega (arith, some-modulus) in
-      omega (arith, some-factor ((setOf set .q - 1) / transformSize (setOf set) i) (transformSize (setOf set) i) (setOf set .q - 1) size-divides some)
+  small-modulus = rules set low .small
 
   -- the root has the order of all rows together
   pub rows-root : Root (setOf set .q) (rowCount (setOf set) i * setOf set .row) (transformRoot (setOf set) i) (rootInverse (setOf set) i)
@@ -116,17 +121,13 @@ few (suc s) low i =
     few-rows (transformSize (setOf (suc s)) i) (setOf (suc s) .row) (byteRules (suc s) (omega arith) low .row-256) (size-most (suc s) low i)
 
 module _ (set : ℕ) (low : IsSet set) (i : ℕ) where
-  -- the modulus is odd
-  pub odd-modulus : Odd (setOf set .q)
-  odd-modulus = record { odd = omega (arith, rules set low .odd); some = some-modulus set low i; small = small-modulus set low i }
-
   -- the sizes of the transforms
   pub sizes : Sizes (setOf set .q) (setOf set .row) (rowCount (setOf set) i)
   sizes =
       record {
-        modulus = odd-modulus;
+        modulus = rules-odd (setOf set) (rules set low);
         some-rows = some-factor (rowCount (setOf set) i) (setOf set .row) (transformSize (setOf set) i) (size-rows set low i) (omega
-            (arith, size-least set low i));
+            (arith, least-size (setOf set) (rules set low) i));
         few-rows = few set low i;
         row = row-cases set low;
       }

@@ -14,7 +14,7 @@ use Rattle.sets.specs.Derived.{transformSize}
 use Rattle.ntt_products.specs.Stored.{rowCount, sizeInverse, sent, sentInverse, recoveredInverse, recovered, products}
 use Rattle.ntt_products.specs.Placed.{Placed}
 use Rattle.ntt_products.proofs.Pointwise.{products-length, products-below}
-use Rattle.ntt_products.proofs.Sizes.{size-rows, some-modulus, small-modulus, inverse-below}
+use Rattle.ntt_products.proofs.Sizes.{size-rows, some-modulus, small-modulus}
 
 -- xs has all places of transform number i, with a residue at each
 abbrev pub Stored : ℕ → ℕ → List ℕ → Type 0
@@ -84,9 +84,8 @@ module _ (set : ℕ) (low : IsSet set) (i : ℕ) where
       }
 
   -- two vectors that may be multiplied
-  pub factors : {x y : List ℕ} → Stored set i x → Stored set i y
-      → (length y ≡ length x) × AllBelow (setOf set .q) (length x) x × AllBelow (setOf set .q) (length x) y × (setOf set .q < 2 ^ 24)
-  factors x y = (y .size ∙ sym (x .size), rw (x .size) (x .residues), rw (x .size) (y .residues), small-modulus set low i)
+  pub factors : {q : ℕ} {x y new : List ℕ} → q ≡ setOf set .q → new ≡ x → Stored set i x → Stored set i y → (length y ≡ length new) × AllBelow q (length new) y
+  factors modulus same x y = rw (modulus, same) (y .size ∙ sym (x .size), rw (x .size) (y .residues))
 
   -- a total to which their products may be added
   pub addends : {total x y : List ℕ} → Stored set i total → Stored set i x → Stored set i y

@@ -14,6 +14,8 @@ use Rattle.maths.specs.Product as polynomials
 use Rattle.maths.specs.Product.{product, correlation}
 use Rattle.maths.specs.Transform as transforms
 use Rattle.maths.specs.Transform.{send, recover}
+use Rattle.montgomery.specs.Scaled as scaled
+use Rattle.montgomery.specs.Scaled.{unscale}
 use Rattle.sets.specs.declared.Parameters.{Parameters}
 use Rattle.sets.specs.Table as tables
 use Rattle.sets.specs.Table.{setOf}
@@ -55,11 +57,11 @@ recovered p i m xs = recover (p .q) (p .row) (rowCount p i) (rootInverse p i) (s
 unfoldable pub correlations : ℕ → List ℕ → List ℕ → ℕ → List ℕ
 correlations q x y m = tabulate m (λ j. correlation (length x) (at x) (at y) j % q)
 
--- the products of x and y modulo q, place by place
+-- the products modulo q of x and what y is the scaled form of, place by place
 unfoldable pub products : ℕ → List ℕ → List ℕ → List ℕ
-products q x y = tabulate (length x) (λ k. at x k * at y k % q)
+products q x y = tabulate (length x) (λ k. at x k * unscale q (at y k) % q)
 
--- the same, each added to the number of a total at its place
+-- the products of x and y, each added to the number of a total at its place
 unfoldable pub accumulated : ℕ → List ℕ → List ℕ → List ℕ → List ℕ
 accumulated q total x y = tabulate (length total) (λ k. (at total k + at x k * at y k) % q)
 
@@ -90,6 +92,11 @@ recovered-example = refl
 correlations-example : correlations 17 (5 ∷ 3 ∷ []) (1 ∷ 2 ∷ 3 ∷ 4 ∷ []) 3 ≡ 11 ∷ 2 ∷ 10 ∷ []
 unfolding correlations polynomials.correlation sums.sum vectors.tabulate
 correlations-example = refl
+
+-- 6 is the scaled form of 5 modulo 7
+products-example : products 7 (3 ∷ []) (6 ∷ []) ≡ 1 ∷ []
+unfolding products vectors.tabulate scaled.unscale
+products-example = refl
 
 accumulated-example : accumulated 17 (1 ∷ 2 ∷ []) (3 ∷ 4 ∷ []) (5 ∷ 6 ∷ []) ≡ 16 ∷ 9 ∷ []
 unfolding accumulated vectors.tabulate

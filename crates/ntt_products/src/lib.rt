@@ -1,5 +1,6 @@
 // Products that go through the transforms, for every parameter set (003 section 3.2; algorithms 40 to 42).
 // A vector is lent with the places of a transform; `tables` holds those of its root, or of the inverse of its root.
+use sets::Parameters;
 ghost use mathlib.Core.Path.{_≡_};
 ghost use Prim.Native.Nat.{ℕ, _+_, _^_, _≤_, _<_};
 ghost use lib.ListN.{length, take};
@@ -7,18 +8,20 @@ ghost use Rattle.maths.specs.Transform.{send, recover};
 ghost use Rattle.maths.specs.Vector.{AllBelow};
 ghost use Rattle.sets.specs.Table.{setOf, IsSet};
 ghost use Rattle.sets.specs.Derived.{transformSize};
+ghost use Rattle.sets.specs.Rules.{Rules};
+ghost use Rattle.montgomery.specs.Scaled.{scale, Modulus};
 ghost use Rattle.ntt_products.specs.Stored.{rowCount, sizeInverse, inversePowers, sent, sentInverse, recoveredInverse, recovered, products, accumulated};
 ghost use Rattle.ntt_products.specs.Stored.{correlations};
 ghost use Rattle.ntt_products.specs.Placed.{Placed, tableLength, SetLent, SetTables, RootTables, InverseTables};
 
-// Multiplies each number of `x` by the number of `y` at its place.
-pub fn multiply(x: &mut [u32], y: &[u32], q: u32)
-    requires { ⌜ (length (now y) ≡ length (now x)) × AllBelow q (length (now x)) (now x) × AllBelow q (length (now x)) (now y) × (q < 2 ^ 24) ⌝ }
+// Multiplies each number of `x` by the one that the number of `y` at its place is the scaled form of.
+fn multiply(x: &mut [u32], y: &[u32], q: u32, k: u32)
+    requires { ⌜ Modulus q k × (length (now y) ≡ length (now x)) × AllBelow q (length (now x)) (now y) ⌝ }
     ensures { λ _. ⌜ now (x .exit) ≡ products q (now (x .entry)) (now (y .entry)) ⌝ }
 {
     let mut j: usize = 0;
     while j < x.len() {
-        x[j] = residues::multiply(x[j], y[j], q);
+        x[j] = residues::reduce_once(montgomery::product(x[j], y[j], q, k), q);
         j += 1;
     }
 }
@@ -45,23 +48,29 @@ pub fn size_of(set: usize, i: usize) -> usize
     sets::derived::transform_size(sets::parameters_of(set), i)
 }
 
-// The rows of transform number i of a set.
-fn rows_of(set: usize, i: usize) -> usize
-    requires { ⌜ IsSet set ⌝ }
-    ensures { λ r. ⌜ r ≡ rowCount (setOf set) i ⌝ }
+// The rows of transform number i.
+fn rows_of(p: Parameters, i: usize) -> usize
+    requires { ⌜ Rules p ⌝ }
+    ensures { λ r. ⌜ r ≡ rowCount p i ⌝ }
 {
-    let p = sets::parameters_of(set);
-    size_of(set, i) / p.row
+    sets::derived::transform_size(p, i) / p.row
 }
 
-// The inverse of the size of transform number i of a set, modulo q.
-fn size_inverse_of(set: usize, i: usize) -> u32
-    requires { ⌜ IsSet set ⌝ }
-    ensures { λ r. ⌜ r ≡ sizeInverse (setOf set) i ⌝ }
+// The inverse of the size of transform number i, modulo q.
+fn size_inverse_of(p: Parameters, i: usize) -> u32
+    requires { ⌜ Rules p ⌝ }
+    ensures { λ r. ⌜ r ≡ sizeInverse p i ⌝ }
 {
-    let p = sets::parameters_of(set);
-    let size = size_of(set, i) as u32;
+    let size = sets::derived::transform_size(p, i) as u32;
     p.q - (p.q - 1) / size
+}
+
+// The same in scaled form: it makes up for products of which one factor was taken for a number in scaled form.
+fn scaled_inverse_of(p: Parameters, i: usize) -> u32
+    requires { ⌜ Rules p ⌝ }
+    ensures { λ r. ⌜ r ≡ scale (p .q) (sizeInverse p i) ⌝ }
+{
+    residues::multiply(size_inverse_of(p, i), montgomery::scaled_one(p.q), p.q)
 }
 
 // Fills `out` with the powers of the inverse of root number i of a set.
@@ -78,7 +87,8 @@ pub fn table_length(set: usize, i: usize) -> usize
     requires { ⌜ IsSet set ⌝ }
     ensures { λ r. ⌜ r ≡ tableLength (setOf set) i ⌝ }
 {
-    size_of(set, i) + 264 + rows_of(set, i)
+    let p = sets::parameters_of(set);
+    sets::derived::transform_size(p, i) + 264 + rows_of(p, i)
 }
 
 // Fills `out` with the tables of root number i of a set.
@@ -87,9 +97,9 @@ pub fn load_tables(set: usize, i: usize, out: &mut [u32])
     ensures { λ _. ⌜ RootTables (setOf set) i (now (out .exit)) ⌝ }
 {
     let p = sets::parameters_of(set);
-    let size = size_of(set, i);
+    let size = sets::derived::transform_size(p, i);
     roots::load_powers(set, i, &mut out[0..size]);
-    ntt_by_row::fill_tables(out, rows_of(set, i), p.row, p.q);
+    ntt_by_row::fill_tables(out, rows_of(p, i), p.row, p.q);
 }
 
 // Fills `out` with the tables of the inverse of root number i of a set.
@@ -98,19 +108,17 @@ pub fn load_inverse_tables(set: usize, i: usize, out: &mut [u32])
     ensures { λ _. ⌜ InverseTables (setOf set) i (now (out .exit)) ⌝ }
 {
     let p = sets::parameters_of(set);
-    let size = size_of(set, i);
+    let size = sets::derived::transform_size(p, i);
     load_inverse_powers(set, i, &mut out[0..size]);
-    ntt_by_row::fill_tables(out, rows_of(set, i), p.row, p.q);
+    ntt_by_row::fill_tables(out, rows_of(p, i), p.row, p.q);
 }
 
 // Sends the first `n` numbers of `x`, with zeros for the others, with the root whose tables are lent.
-fn send_front(set: usize, i: usize, tables: &[u32], x: &mut [u32], n: usize)
-    requires { ⌜ IsSet set × SetLent (setOf set) i (now tables) × Placed (setOf set) i n (now x) ⌝ }
-    ensures { λ _. ⌜ ((w : ℕ) → SetTables (setOf set) i w (now (tables .entry))
-        → now (x .exit) ≡ send (setOf set .q) (setOf set .row) (rowCount (setOf set) i) w (take n (now (x .entry)))) ⌝ }
+fn send_front(p: Parameters, i: usize, tables: &[u32], x: &mut [u32], n: usize)
+    requires { ⌜ Rules p × SetLent p i (now tables) × Placed p i n (now x) ⌝ }
+    ensures { λ _. ⌜ ((w : ℕ) → SetTables p i w (now (tables .entry)) → now (x .exit) ≡ send (p .q) (p .row) (rowCount p i) w (take n (now (x .entry)))) ⌝ }
 {
-    let p = sets::parameters_of(set);
-    ntt_by_row::forward(x, tables, n, rows_of(set, i), p.row, p.q);
+    ntt_by_row::forward(x, tables, n, rows_of(p, i), p.row, p.q);
 }
 
 // Sends the first `n` numbers of `x` with root number i of a set.
@@ -118,7 +126,7 @@ pub fn send_first(set: usize, i: usize, tables: &[u32], x: &mut [u32], n: usize)
     requires { ⌜ IsSet set × RootTables (setOf set) i (now tables) × Placed (setOf set) i n (now x) ⌝ }
     ensures { λ _. ⌜ now (x .exit) ≡ sent (setOf set) i (take n (now (x .entry))) ⌝ }
 {
-    send_front(set, i, tables, x, n);
+    send_front(sets::parameters_of(set), i, tables, x, n);
 }
 
 // Sends the first `n` numbers of `x` with the inverse of the root.
@@ -126,19 +134,16 @@ pub fn send_first_inverse(set: usize, i: usize, tables: &[u32], x: &mut [u32], n
     requires { ⌜ IsSet set × InverseTables (setOf set) i (now tables) × Placed (setOf set) i n (now x) ⌝ }
     ensures { λ _. ⌜ now (x .exit) ≡ sentInverse (setOf set) i (take n (now (x .entry))) ⌝ }
 {
-    send_front(set, i, tables, x, n);
+    send_front(sets::parameters_of(set), i, tables, x, n);
 }
 
-// Recovers the first `m` numbers of a stored vector with the root whose tables are lent.
-fn recover_front(set: usize, i: usize, tables: &[u32], x: &mut [u32], m: usize)
-    requires { ⌜ IsSet set × SetLent (setOf set) i (now tables) × Placed (setOf set) i (transformSize (setOf set) i) (now x)
-        × (m ≤ transformSize (setOf set) i) ⌝ }
-    ensures { λ _. ⌜ ((w : ℕ) → SetTables (setOf set) i w (now (tables .entry))
-        → take m (now (x .exit)) ≡ recover (setOf set .q) (setOf set .row) (rowCount (setOf set) i) w (sizeInverse (setOf set) i) m (now (x .entry))) ⌝ }
+// Recovers the first `m` numbers of a stored vector with the root whose tables are lent, scaled by `e`.
+fn recover_front(p: Parameters, i: usize, tables: &[u32], x: &mut [u32], e: u32, m: usize)
+    requires { ⌜ Rules p × SetLent p i (now tables) × Placed p i (transformSize p i) (now x) × (e < p .q) × (m ≤ transformSize p i) ⌝ }
+    ensures { λ _. ⌜ ((w : ℕ) → SetTables p i w (now (tables .entry))
+        → take m (now (x .exit)) ≡ recover (p .q) (p .row) (rowCount p i) w e m (now (x .entry))) ⌝ }
 {
-    let p = sets::parameters_of(set);
-    let e = size_inverse_of(set, i);
-    ntt_by_row::inverse(x, tables, e, m, rows_of(set, i), p.row, p.q);
+    ntt_by_row::inverse(x, tables, e, m, rows_of(p, i), p.row, p.q);
 }
 
 // Recovers the first `m` numbers of a vector that is stored with the inverse of root number i of a set.
@@ -147,7 +152,8 @@ pub fn recover_first_inverse(set: usize, i: usize, tables: &[u32], x: &mut [u32]
         × (m ≤ transformSize (setOf set) i) ⌝ }
     ensures { λ _. ⌜ take m (now (x .exit)) ≡ recoveredInverse (setOf set) i m (now (x .entry)) ⌝ }
 {
-    recover_front(set, i, tables, x, m);
+    let p = sets::parameters_of(set);
+    recover_front(p, i, tables, x, size_inverse_of(p, i), m);
 }
 
 // Recovers the first `m` numbers of a vector that is stored with root number i of a set.
@@ -156,7 +162,8 @@ pub fn recover_first(set: usize, i: usize, tables: &[u32], x: &mut [u32], m: usi
         × (m ≤ transformSize (setOf set) i) ⌝ }
     ensures { λ _. ⌜ take m (now (x .exit)) ≡ recovered (setOf set) i m (now (x .entry)) ⌝ }
 {
-    recover_front(set, i, tables, x, m);
+    let p = sets::parameters_of(set);
+    recover_front(p, i, tables, x, size_inverse_of(p, i), m);
 }
 
 // The first `m` correlations of the first `n` numbers of `x` with the vector that is stored with the inverse of root number i of a set.
@@ -176,7 +183,7 @@ pub fn correlate(
         (recoveredInverse (setOf set) i (transformSize (setOf set) i) (now (stored .entry))) m ⌝ }
 {
     let p = sets::parameters_of(set);
-    send_first(set, i, tables, x, n);
-    multiply(x, stored, p.q);
-    recover_first_inverse(set, i, tables, x, m);
+    send_front(p, i, tables, x, n);
+    multiply(x, stored, p.q, montgomery::negated_inverse(p.q));
+    recover_front(p, i, tables, x, scaled_inverse_of(p, i), m);
 }

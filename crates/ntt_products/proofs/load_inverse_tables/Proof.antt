@@ -1,42 +1,70 @@
 -- `ntt_products::load_inverse_tables` meets its contract: the powers of the inverse of the root are loaded, and its tables are made of them.
 -- Assumes nothing.
-use mathlib.Core.Path.{ap, _∙_}
+use mathlib.Core.Path.{_≡_, sym, ap, _∙_}
 use native.Mathlib.Omega.{arith}
-use lib.ListN.{length}
+use native.Mathlib.Nat.{sub-zero}
+use lib.ListN.{length, length-take}
 use Rattle.sets.specs.Table.{setOf}
 use Rattle.sets.specs.Derived.{transformSize}
+use Rattle.sets.proofs.Rules.{rules}
 use Rattle.ntt_products.proofs.Sizes.{size-rows, sizes, front-length, front-region, inversePowers-length, inverse-ordered, inverse-powers-below}
 use borrow.Author.Needs.{needs}
 use Rattle.ntt_products.proofs.load_inverse_tables.Statement.{statement}
 use Rattle.ntt_products.proofs.load_inverse_tables.Tie as tie
 
+-- the points: the start, and the powers loaded
+abbrev start : tie.After-transform-size → tie.Start
+start c = c .before .before .before
+
+abbrev sized : tie.After-load-inverse-powers → tie.After-transform-size
+sized c = c .before .before
+
+-- the size of the set's transform
+size-is : (c : tie.After-transform-size) → c .transform-size .result ≡ transformSize (setOf (start c .args .set)) (start c .args .i)
+size-is c = rw (c .before .parameters-of .ensures) at (c .transform-size .ensures)
+
+-- so many powers are loaded
+long : (c : tie.After-load-inverse-powers) → let begun = start (sized c) in
+    length (c .load-inverse-powers .last .1 .1 .0) ≡ transformSize (setOf (begun .args .set)) (begun .args .i)
+long c = ap length (c .load-inverse-powers .ensures) ∙ inversePowers-length (start (sized c) .args .set) (start (sized c) .args .i)
+
+part-load-inverse-powers-end : tie.Need-part-load-inverse-powers-end
+part-load-inverse-powers-end c = omega (arith, size-is c, start c .pre .1)
+
+load-inverse-powers-requires : tie.Need-load-inverse-powers-requires
+load-inverse-powers-requires c κs =
+    let begun = start (c .before) in
+    (begun .pre .0, simp (length-take, sub-zero) (omega (arith, size-is (c .before), begun .pre .1)))
+
+rows-of-requires : tie.Need-rows-of-requires
+rows-of-requires c κs =
+    let size = sized (c .before .before .before) in rw (size .before .parameters-of .ensures) (rules (start size .args .set) (start size .pre .0))
+
 fill-tables-requires : tie.Need-fill-tables-requires
 fill-tables-requires c κs =
     let loaded = c .before .before .before .before in
-    let start = loaded .before .before .before .before .before in
-    let set = start .args .set in
-    let i = start .args .i in
-    let size = loaded .before .before .size-of .ensures in
-    let long = ap length (loaded .load-inverse-powers .ensures) ∙ inversePowers-length set i in
-    rw (loaded .before .before .before .parameters-of .ensures, c .rows-of .ensures) (
-      sizes set (start .pre .0) i,
-      rw (size-rows set (start .pre .0) i, size) (front-length (loaded .load-inverse-powers .last .1 .1 .0) (start .args .out .now) (transformSize
-          (setOf set) i) long (start .pre .1) (omega arith)),
-      inverse-powers-below set (start .pre .0) i (front-region _ _ _ long ∙ loaded .load-inverse-powers .ensures),
+    let size = sized loaded in
+    let begun = start size in
+    let set = begun .args .set in
+    let i = begun .args .i in
+    rw (c .rows-of .ensures, size .before .parameters-of .ensures) (
+      sizes set (begun .pre .0) i,
+      rw (size-rows set (begun .pre .0) i)
+          (front-length (loaded .load-inverse-powers .last .1 .1 .0) (begun .args .out .now) (size .transform-size .result) (long loaded ∙ sym (size-is size))
+          (begun .pre .1) (omega (arith, size-is size))),
+      inverse-powers-below set (begun .pre .0) i (front-region _ _ _ (long loaded) ∙ loaded .load-inverse-powers .ensures),
     )
 
 returns : tie.Need-returns
 returns c =
     let loaded = c .before .before .before .before .before .before .before in
-    let start = loaded .before .before .before .before .before in
-    let set = start .args .set in
-    let i = start .args .i in
-    let long = ap length (loaded .load-inverse-powers .ensures) ∙ inversePowers-length set i in
-    let made = rw (loaded .before .before .before .parameters-of .ensures, c .before .before .before .rows-of .ensures) at
-    (c .before .before .fill-tables .ensures) in
+    let begun = start (sized loaded) in
+    let set = begun .args .set in
+    let i = begun .args .i in
+    let made = rw (c .before .before .before .rows-of .ensures, sized loaded .before .parameters-of .ensures) at (c .before .before .fill-tables .ensures) in
     record {
       lent = made .0;
-      root = made .1 _ (inverse-ordered set (start .pre .0) i (front-region _ _ _ long ∙ loaded .load-inverse-powers .ensures));
+      root = made .1 _ (inverse-ordered set (begun .pre .0) i (front-region _ _ _ (long loaded) ∙ loaded .load-inverse-powers .ensures));
     }
 
 pub load-inverse-tables-spec : {M : Type 1} → statement M
@@ -47,9 +75,9 @@ load-inverse-tables-spec =
     (λ c κs. search needs)
     (λ c. search needs)
     (λ c. search needs)
-    (λ c. search needs)
-    (λ c κs. search needs)
-    (λ c κs. search needs)
+    part-load-inverse-powers-end
+    load-inverse-powers-requires
+    rows-of-requires
     fill-tables-requires
     (λ c. search needs)
     returns)

@@ -13,28 +13,34 @@ use Rattle.ntt_products.proofs.multiply.Statement.{statement}
 use Rattle.ntt_products.proofs.multiply.Tie as tie
 
 abbrev Inv-loop : tie.InvT-loop
-Inv-loop x₀ y q j₀ x j = Filled x₀ 0 (length x₀) (products q x₀ y) j x
+Inv-loop x₀ y q k j₀ x j = Filled x₀ 0 (length x₀) (products q x₀ y) j x
 
 abbrev μ-loop : tie.MeasureT-loop
-μ-loop x₀ y q j₀ x j = length x₀ - j
+μ-loop x₀ y q k j₀ x j = length x₀ - j
 
 loop-holds : tie.Need-loop-holds Inv-loop μ-loop
 loop-holds c = filled-none (products-length _ _ _) (omega arith)
 
-multiply-requires : tie.Need-multiply-requires Inv-loop μ-loop
-multiply-requires c κs =
+product-requires : tie.Need-product-requires Inv-loop μ-loop
+product-requires c κs =
     let start = c .before .before .before .before .before .before in
     let turn = c .before .before .before .loop in
     let below : turn .j < length (start .args .x .now) = omega (arith, turn .inv .kept-length, c .before .before .loop-test .taken) in
-    (rw (ahead (turn .inv)) (start .pre .1 .each (turn .j) below), start .pre .2 .each (turn .j) below, start .pre .3)
+    (start .pre .0, start .pre .2 .each (turn .j) below)
+
+reduce-once-requires : tie.Need-reduce-once-requires Inv-loop μ-loop
+reduce-once-requires c κs =
+    (c .product .ensures .1, c .before .before .before .before .before .before .before .pre .0 .modulus .small)
 
 loop-again : tie.Need-loop-again Inv-loop μ-loop
 loop-again c =
-    let start = c .before .before .before .before .before .before .before in
-    let turn = c .before .before .before .before .loop in
-    let below : turn .j < length (start .args .x .now) = omega (arith, turn .inv .kept-length, c .before .before .before .loop-test .taken) in
+    let start = c .before .before .before .before .before .before .before .before in
+    let turn = c .before .before .before .before .before .loop in
+    let below : turn .j < length (start .args .x .now) = omega (arith, turn .inv .kept-length, c .before .before .before .before .loop-test .taken) in
     filled-more 0 (turn .inv) below (sym (zero-add (turn .j)))
-    (c .multiply .ensures ∙ rw (ahead (turn .inv)) (sym (products-at (start .args .q) (start .args .x .now) (start .args .y .now) (turn .j) below)))
+    (c .reduce-once .ensures
+    ∙ c .before .product .ensures .0
+    ∙ rw (ahead (turn .inv)) (sym (products-at (start .args .q) (start .args .x .now) (start .args .y .now) (turn .j) below)))
 
 returns : tie.Need-returns Inv-loop μ-loop
 returns c = filled-whole (c .before .loop .inv) refl (omega (arith, c .loop-test .left, c .before .loop .inv .kept-length))
@@ -50,7 +56,8 @@ multiply-spec =
     (λ c. search needs)
     (λ c. search needs)
     (λ c. search needs)
-    multiply-requires
+    product-requires
+    reduce-once-requires
     (λ c. search needs)
     (λ c. search needs)
     (λ c. search needs)

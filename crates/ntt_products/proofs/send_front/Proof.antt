@@ -1,25 +1,22 @@
--- `ntt_products::send_front` meets its contract: the transform with the set's sizes and modulus.
+-- `ntt_products::send_front` meets its contract: the transform with the sizes and the modulus.
 -- Assumes nothing.
 use mathlib.Core.Path.{sym, _∙_}
-use Rattle.ntt_products.proofs.Sizes.{size-rows}
+use Rattle.ntt_products.proofs.Sizes.{rows-size}
 use borrow.Author.Needs.{needs}
 use Rattle.ntt_products.proofs.send_front.Statement.{statement}
 use Rattle.ntt_products.proofs.send_front.Tie as tie
 
 forward-requires : tie.Need-forward-requires
 forward-requires c κs =
-    let start = c .before .before .before .before .before in
-    let rows = size-rows (start .args .set) (start .pre .0) (start .args .i) in
+    let start = c .before .before .before .before in
+    let rows = rows-size (start .args .p) (start .pre .0) (start .args .i) in
     let placed = start .pre .2 in
-    rw (c .before .before .parameters-of .ensures, c .rows-of .ensures)
-    (start .pre .1, placed .size ∙ sym rows, rw rows (placed .inside), placed .residues)
+    rw (c .rows-of .ensures) (start .pre .1, placed .size ∙ sym rows, rw rows (placed .inside), placed .residues)
 
 returns : tie.Need-returns
 returns c w tables =
-    rw (c .before .before .before .before .before .parameters-of .ensures, c .before .before .before .rows-of .ensures) at
-    (c .before .before .forward .ensures w
-    (rw (c .before .before .before .before .before .parameters-of .ensures, c .before .before .before .rows-of .ensures) tables))
+    rw (c .before .before .before .rows-of .ensures) at (c .before .before .forward .ensures w (rw (c .before .before .before .rows-of .ensures) tables))
 
 pub send-front-spec : {M : Type 1} → statement M
 send-front-spec =
-    tie.close (tie.spec (λ c κs. search needs) (λ c κs. search needs) forward-requires (λ c. search needs) returns)
+    tie.close (tie.spec (λ c κs. search needs) forward-requires (λ c. search needs) returns)

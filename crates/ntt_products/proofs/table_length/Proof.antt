@@ -1,28 +1,44 @@
 -- `ntt_products::table_length` meets its contract: the size is at most 3328, and the rows are at most 16.
 -- Assumes nothing.
+use mathlib.Core.Path.{_≡_}
 use native.Mathlib.Omega.{arith}
+use Rattle.sets.specs.Table.{setOf}
+use Rattle.sets.specs.Derived.{transformSize}
+use Rattle.sets.proofs.Rules.{rules}
 use Rattle.sets.proofs.Transforms.{size-most}
+use Rattle.ntt_products.specs.Stored.{rowCount}
 use Rattle.ntt_products.proofs.Sizes.{sizes}
 use borrow.Author.Needs.{needs}
 use Rattle.ntt_products.proofs.table_length.Statement.{statement}
 use Rattle.ntt_products.proofs.table_length.Tie as tie
 
+-- the size of the set's transform
+size-is : (c : tie.After-transform-size) → c .transform-size .result ≡ transformSize (setOf (c .before .before .args .set)) (c .before .before .args .i)
+size-is c = rw (c .before .parameters-of .ensures) at (c .transform-size .ensures)
+
+-- and its rows
+rows-are : (c : tie.After-rows-of) → c .rows-of .result ≡ rowCount (setOf (c .before .before .before .args .set)) (c .before .before .before .args .i)
+rows-are c = rw (c .before .before .parameters-of .ensures) at (c .rows-of .ensures)
+
 add-result : tie.Need-add-result
-add-result c = let start = c .before in omega (arith, c .size-of .ensures, size-most (start .args .set) (start .pre) (start .args .i))
+add-result c = let start = c .before .before in omega (arith, size-is c, size-most (start .args .set) (start .pre) (start .args .i))
+
+rows-of-requires : tie.Need-rows-of-requires
+rows-of-requires c κs = rw (c .before .parameters-of .ensures) (rules (c .before .before .args .set) (c .before .before .pre))
 
 add-result-2 : tie.Need-add-result-2
 add-result-2 c =
-    let start = c .before .before in
+    let start = c .before .before .before in
     omega (
       arith,
-      c .before .size-of .ensures,
-      c .rows-of .ensures,
+      size-is (c .before),
+      rows-are c,
       size-most (start .args .set) (start .pre) (start .args .i),
       sizes (start .args .set) (start .pre) (start .args .i) .few-rows,
     )
 
 returns : tie.Need-returns
-returns c = cc
+returns c = rw (size-is (c .before), rows-are c)
 
 pub table-length-spec : {M : Type 1} → statement M
-table-length-spec = tie.close (tie.spec (λ c κs. search needs) add-result (λ c κs. search needs) add-result-2 returns)
+table-length-spec = tie.close (tie.spec (λ c κs. search needs) (λ c κs. search needs) add-result rows-of-requires add-result-2 returns)
