@@ -4,7 +4,6 @@ use libc::STDOUT_FILENO;
 ghost use Prim.Native.Nat.{ℕ, _+_, _*_, _<_, _≤_};
 ghost use lib.ListN.{length, getD};
 
-pub mod lengths;
 pub mod random;
 pub mod script;
 
@@ -43,11 +42,6 @@ fn wide(x: u8) -> u64
     ensures { λ r. ⌜ r < 256 ⌝ }
 {
     x as u64
-}
-
-// A byte as a count.
-pub fn count(x: u8) -> usize {
-    x as usize
 }
 
 // Prints a space and bytes, each as two hexadecimal digits.
@@ -148,20 +142,6 @@ pub fn fill_bytes(values: &mut [u8], start: usize) {
     }
 }
 
-// Makes `count` candidates from number `first` on such that a draw sets them aside.
-pub fn set_aside(bytes: &mut [u8], first: usize, count: usize) {
-    fill_ones(part_mut(bytes, 3 * (first % 1024), 3 * (count % 1024)));
-}
-
-// Fills bytes with 255.
-fn fill_ones(bytes: &mut [u8]) {
-    let mut i: usize = 0;
-    while i < bytes.len() {
-        bytes[i] = 255;
-        i += 1;
-    }
-}
-
 // Fills bytes with others, again and again; a copy where there are as many.
 pub fn repeat(bytes: &mut [u8], others: &[u8]) {
     let n = others.len();
@@ -205,34 +185,6 @@ pub fn at_most(x: usize, limit: usize) -> usize
     if limit < x { limit } else { x }
 }
 
-// A length, or another where it is the one to change: 1 and 2 are one more and one less of the first slice, 3 and 4 of the second, and so on; 20 is
-// an empty first slice, 21 an empty second one, and so on.
-fn changed_once(length: usize, slice: usize, change: usize) -> usize {
-    if change == 0 {
-        return length;
-    }
-    if 20 <= change {
-        return if change - 20 == slice { 0 } else { length };
-    }
-    if (change - 1) / 2 != slice {
-        return length;
-    }
-    if change % 2 == 1 {
-        if length < 1000000 { length + 1 } else { length }
-    } else {
-        if 0 < length { length - 1 } else { length }
-    }
-}
-
-// The same with up to two changes: one and 100 times another.
-pub fn changed(length: usize, slice: usize, change: usize) -> usize {
-    changed_once(
-        changed_once(length, slice, change % 100),
-        slice,
-        change / 100,
-    )
-}
-
 // Prints the name of a call, its set, and which lengths were changed.
 pub fn call(name: &[u8], set: usize, change: usize) {
     text(name);
@@ -240,31 +192,9 @@ pub fn call(name: &[u8], set: usize, change: usize) {
     number(change as u64);
 }
 
-// Prints the number of a round of random calls.
-pub fn round(i: usize) {
-    text(b"round");
-    number(i as u64);
-    end();
-}
-
 // The lowest eight bits of a number.
 pub fn low_byte(x: usize) -> u8 {
     (x % 256) as u8
-}
-
-// Puts the lowest 24 bits of a number into three bytes, least significant first: a number packed there is then that number.
-pub fn put_number(bytes: &mut [u8], place: usize, value: usize) {
-    put_byte(bytes, place, low_byte(value));
-    put_byte(
-        part_mut(bytes, 1, bytes.len()),
-        place,
-        low_byte(value / 256),
-    );
-    put_byte(
-        part_mut(bytes, 2, bytes.len()),
-        place,
-        low_byte(value / 65536),
-    );
 }
 
 // Puts a byte at a place that the slice has.

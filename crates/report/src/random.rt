@@ -33,43 +33,6 @@ fn number(group: usize, slice: usize, i: usize) -> usize
     (crate::after(mixed(first)) / 128 % 16777216) as usize
 }
 
-// Choice `i` of a group of calls, a number below a limit.
-pub fn below(group: usize, i: usize, limit: usize) -> usize {
-    if limit == 0 {
-        return 0;
-    }
-    number(group, 0, i) % limit
-}
-
-// A set from 0 to 13, one past the last.
-pub fn set(group: usize, i: usize) -> usize {
-    below(group, i, 14)
-}
-
-// A set for a call of one of the two schemes, most often one of its own.
-pub fn scheme_set(is_exchange: bool, group: usize) -> usize {
-    let any = set(group, 0);
-    if below(group, 1, 4) == 0 {
-        return any;
-    }
-    if is_exchange {
-        any % 6 + 7
-    } else {
-        any % 6 + 1
-    }
-}
-
-// Which length of a call with so many slices is changed, in the numbers of `changed`; most often none is.
-pub fn change(group: usize, i: usize, slices: usize) -> usize {
-    let change = below(group, i, 60);
-    let slice = if change < 20 {
-        (change + 1) / 2
-    } else {
-        change - 19
-    };
-    if slice <= slices { change } else { 0 }
-}
-
 // Fills bytes.
 pub fn fill(values: &mut [u8], group: usize, slice: usize) {
     let mut i: usize = 0;
