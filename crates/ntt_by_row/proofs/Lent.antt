@@ -15,8 +15,8 @@ use Rattle.maths.specs.Transform.{send, recover}
 use Rattle.maths.proofs.Vector.{tabulate-take}
 use Rattle.maths.proofs.Congruence.{mod-refl, mod-eq, mod-trans, mod-mul, mod-remainder}
 use Rattle.maths.specs.Root.{powerTable}
-use Rattle.calls.specs.Region.{region}
-use Rattle.calls.proofs.Region.{region-part, region-length, region-entry}
+use Rattle.calls.specs.Region.{region, over}
+use Rattle.calls.proofs.Region.{region-part, region-length, region-entry, over-front}
 use Rattle.montgomery.specs.Scaled.{Odd}
 use Rattle.ntt_tables.specs.Tables.{tablesLength, Powers, Ready, Tables}
 use Rattle.ntt_plain.specs.Plain.{Plain}
@@ -29,6 +29,12 @@ one-number sizes other = elim (sizes .row) [ inl wide ↦ absurd (other wide) | 
 -- the powers that are lent
 pub powers : (tables : List ℕ) (rows : ℕ) → take (rows - 0) tables ≡ region tables 0 rows
 powers tables rows = region-part tables 0 rows rows (sym (zero-add rows))
+
+-- the front of a list into which another was copied
+pub copied : {buffer : List ℕ} (zeros ys : List ℕ) (n : ℕ) → buffer ≡ over zeros 0 ys → length ys ≡ n → n ≤ length zeros → take n buffer ≡ ys
+copied zeros ys n e size fits =
+    let end : n ≡ 0 + length ys = omega arith in
+    rw (e, end) (over-front zeros 0 ys (omega arith))
 
 -- rows of 256 numbers
 module _ {q ρ δ : ℕ} (wide : ρ ≡ 256) where
@@ -112,11 +118,13 @@ module _ {q ρ δ : ℕ} (other : ρ ≡ 256 → ⊥) where
         record { each = λ i h. rw (region-entry tables 0 δ i 0 (rw powers-length at h), zero-add) (lent .powers-below one .each i (rw powers-length at h)) }
 
     -- numbers that may be sent or recovered
-    plain-of : (ys : List ℕ) → length ys ≤ δ → AllBelow q (length ys) ys → Plain q (region tables 0 δ) ys
+    plain-of : (ys : List ℕ) → length ys ≤ δ → AllBelow q (length ys) ys → Plain q 1 (region tables 0 δ) ys
     plain-of ys fits below =
         record {
           some-modulus = lent .sizes .modulus .some;
           modulus = lent .sizes .modulus .small;
+          some-columns = omega arith;
+          columns-fit = rw powers-length (lent .sizes .some-rows);
           size = rw powers-length fits;
           few = rw powers-length (omega (arith, lent .sizes .few-rows));
           numbers = below;
@@ -125,7 +133,7 @@ module _ {q ρ δ : ℕ} (other : ρ ≡ 256 → ⊥) where
 
     -- a vector may be sent
     pub plain-forward : {n : ℕ} → n ≤ δ * ρ → AllBelow q n x
-        → Plain q (region tables 0 δ) (take n x) × (length x ≡ length (region tables 0 δ)) × (length (region tables 0 δ) ≤ 16) × (n ≤ length x)
+        → Plain q 1 (region tables 0 δ) (take n x) × (length x ≡ length (region tables 0 δ)) × (length (region tables 0 δ) ≤ 16) × (n ≤ length x)
     plain-forward {n} fits below =
         let within : n ≤ length x = omega arith in
         let front : length (take n x) ≡ n = length-take-le n x within in (
@@ -138,7 +146,7 @@ module _ {q ρ δ : ℕ} (other : ρ ≡ 256 → ⊥) where
 
     -- a stored vector may be recovered
     pub plain-inverse : {e : ℕ} → AllBelow q (δ * ρ) x → e < q
-        → Plain q (region tables 0 δ) x × (length x ≡ length (region tables 0 δ)) × (length (region tables 0 δ) ≤ 16) × (e < q)
+        → Plain q 1 (region tables 0 δ) x × (length x ≡ length (region tables 0 δ)) × (length (region tables 0 δ) ≤ 16) × (e < q)
     plain-inverse below small = (
       plain-of x (omega (arith, numbers-length)) (rw size below),
       numbers-length ∙ sym powers-length,

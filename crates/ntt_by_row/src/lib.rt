@@ -5,7 +5,10 @@ ghost use Prim.Native.Nat.{ℕ, _+_, _*_, _%_, _^_, _≤_, _<_};
 ghost use lib.ListN.{length, take};
 ghost use Rattle.maths.specs.Vector.{AllBelow};
 ghost use Rattle.maths.specs.Transform.{send, recover};
+ghost use Rattle.maths.specs.Congruence.{Mod};
+ghost use Rattle.maths.specs.Root.{powerTable};
 ghost use Rattle.montgomery.specs.Scaled.{Odd};
+ghost use Rattle.ntt_plain.specs.Plain.{Plain};
 ghost use Rattle.ntt_tables.specs.Tables.{Ready, Tables};
 ghost use Rattle.ntt_by_row.specs.Lent.{lentLength, Sizes, Lent, OrderedPowers, TablesFor};
 
@@ -39,6 +42,17 @@ fn forward_rows(x: &mut [u32], tables: &[u32], n: usize, rows: usize, q: u32)
     ntt::forward(x, tables, m, rows, q);
 }
 
+// The transform of the first `n` numbers of `x`, for rows of one number.
+fn forward_numbers(x: &mut [u32], powers: &[u32], n: usize, q: u32)
+    requires { ⌜ Plain q 1 (now powers) (take n (now x)) × (length (now x) ≡ length (now powers)) × (length (now powers) ≤ 16) × (n ≤ length (now x)) ⌝ }
+    ensures { λ _. ⌜ ((w : ℕ) → now (powers .entry) ≡ powerTable q w (length (now (powers .entry))) → Mod q (w ^ length (now (powers .entry))) 1
+        → now (x .exit) ≡ send q 1 (length (now (powers .entry))) w (take n (now (x .entry)))) ⌝ }
+{
+    let mut buffer = [0u32; 16];
+    calls::copy_in(&mut buffer, 0, &x[0..n]);
+    ntt_plain::forward(x, &buffer[0..n], powers, n, powers.len(), 1, q);
+}
+
 // The transform of the first `n` numbers of `x`, with zeros for the others, whatever stands there.
 pub fn forward(x: &mut [u32], tables: &[u32], n: usize, rows: usize, row: usize, q: u32)
     requires { ⌜ Lent q row rows (now tables) × (length (now x) ≡ rows * row) × (n ≤ rows * row) × AllBelow q n (now x) ⌝ }
@@ -48,7 +62,7 @@ pub fn forward(x: &mut [u32], tables: &[u32], n: usize, rows: usize, row: usize,
         forward_rows(x, tables, n, rows, q);
         return;
     }
-    ntt_plain::forward(x, &tables[0..rows], n, q);
+    forward_numbers(x, &tables[0..rows], n, q);
 }
 
 // The scale of an inverse transform: e, with what the twist by powers that are not in scaled form asks.
@@ -68,6 +82,18 @@ fn inverse_rows(x: &mut [u32], tables: &[u32], e: u32, m: usize, rows: usize, q:
     ntt::inverse(x, tables, by, rows_used(m, rows), rows, q);
 }
 
+// What a stored vector was made from, for rows of one number.
+fn inverse_numbers(x: &mut [u32], powers: &[u32], e: u32, q: u32)
+    requires { ⌜ Plain q 1 (now powers) (now x) × (length (now x) ≡ length (now powers)) × (length (now powers) ≤ 16) × (e < q) ⌝ }
+    ensures { λ _. ⌜ ((w : ℕ) → now (powers .entry) ≡ powerTable q w (length (now (powers .entry))) → Mod q (w ^ length (now (powers .entry))) 1
+        → now (x .exit) ≡ recover q 1 (length (now (powers .entry))) w e (length (now (powers .entry))) (now (x .entry))) ⌝ }
+{
+    let n = x.len();
+    let mut buffer = [0u32; 16];
+    calls::copy_in(&mut buffer, 0, x);
+    ntt_plain::inverse(x, &buffer[0..n], powers, e, n, 1, q);
+}
+
 // The first `m` numbers of what a stored vector was made from: the transform with the root whose tables are lent, the inverse of the one it was sent
 // with, scaled by `e`.
 pub fn inverse(x: &mut [u32], tables: &[u32], e: u32, m: usize, rows: usize, row: usize, q: u32)
@@ -78,5 +104,5 @@ pub fn inverse(x: &mut [u32], tables: &[u32], e: u32, m: usize, rows: usize, row
         inverse_rows(x, tables, e, m, rows, q);
         return;
     }
-    ntt_plain::inverse(x, &tables[0..rows], e, q);
+    inverse_numbers(x, &tables[0..rows], e, q);
 }

@@ -1,8 +1,9 @@
--- The transform by written-out sums (003 section 3.2, NTT').
+-- The transform of δ rows of ρ numbers by written-out sums, for any δ and ρ: columns, twist and rows (003 section 3.2.2, algorithm 36), and back
+-- (algorithm 37).
 -- Assumes nothing.
 use mathlib.Core.Path.{_≡_, refl}
 use mathlib.Core.List.{List, [], _∷_}
-use Prim.Native.Nat.{ℕ, _+_, _*_, _%_, _^_, _≤_, _<_}
+use Prim.Native.Nat.{ℕ, _+_, _*_, _/_, _%_, _^_, _≤_, _<_}
 use lib.ListN.{length}
 use Rattle.maths.specs.Vector as vectors
 use Rattle.maths.specs.Vector.{at, tabulate, AllBelow}
@@ -24,20 +25,43 @@ pub record Summable (x : List ℕ) (first stride count : ℕ) (powers : List ℕ
   pub numbers : AllBelow (2 ^ 24) (length x) x
   pub factors : AllBelow (2 ^ 24) (length powers) powers
 
--- residues, at most as many as there are powers
-pub record Plain (q : ℕ) (powers x : List ℕ) : Type 0 where
+-- the values of the transforms of the columns, as many rows of them as fill `places`; x has m rows of ρ numbers
+unfoldable pub columns : ℕ → ℕ → ℕ → ℕ → List ℕ → List ℕ → List ℕ
+columns q ρ m places powers x = tabulate places (λ i. stridedSum x (i % ρ) ρ m powers (i / ρ * ρ) % q)
+
+-- each number times a power of the root: r · c is the exponent in row r, column c
+unfoldable pub twisted : ℕ → ℕ → List ℕ → List ℕ → List ℕ
+twisted q ρ powers x = tabulate (length x) (λ i. at x i * at powers (i / ρ * (i % ρ)) % q)
+
+-- the transform of each of δ rows
+unfoldable pub rows : ℕ → ℕ → ℕ → List ℕ → List ℕ → List ℕ
+rows q ρ δ powers x = tabulate (length x) (λ i. stridedSum x (i / ρ * ρ) 1 ρ powers (i % ρ * δ) % q)
+
+-- each number times e
+unfoldable pub scaled : ℕ → ℕ → List ℕ → List ℕ
+scaled q e x = tabulate (length x) (λ i. e * at x i % q)
+
+-- residues in rows of ρ numbers, at most as many as there are powers of the root
+pub record Plain (q ρ : ℕ) (powers x : List ℕ) : Type 0 where
   pub some-modulus : 1 < q
   pub modulus : q < 2 ^ 24
+  pub some-columns : 0 < ρ
+  pub columns-fit : ρ ≤ length powers
   pub size : length x ≤ length powers
-  pub few : length powers ≤ 4096
+  pub few : length powers ≤ 3328
   pub numbers : AllBelow q (length x) x
   pub factors : AllBelow q (length powers) powers
 
--- the values of the transform of x, each times e: as many as there are powers
-unfoldable pub values : ℕ → ℕ → List ℕ → List ℕ → List ℕ
-values q e powers x = tabulate (length powers) (λ i. e * (stridedSum x 0 1 (length x) powers i % q) % q)
+-- (1, 2, 3, 4) modulo 17 in rows of two, with the root 4 of order 4: the columns (1, 3) and (2, 4)
+columns-example : columns 17 2 2 4 (1 ∷ 4 ∷ 16 ∷ 13 ∷ []) (1 ∷ 2 ∷ 3 ∷ 4 ∷ []) ≡ 4 ∷ 6 ∷ 15 ∷ 15 ∷ []
+unfolding columns stridedSum sums.sum vectors.tabulate
+columns-example = refl
 
--- bench figure 6
-values-example : values 17 1 (1 ∷ 4 ∷ 16 ∷ 13 ∷ []) (1 ∷ 2 ∷ 3 ∷ 4 ∷ []) ≡ 10 ∷ 7 ∷ 15 ∷ 6 ∷ []
-unfolding values stridedSum sums.sum vectors.tabulate
-values-example = refl
+twisted-example : twisted 17 2 (1 ∷ 4 ∷ 16 ∷ 13 ∷ []) (4 ∷ 6 ∷ 15 ∷ 15 ∷ []) ≡ 4 ∷ 6 ∷ 15 ∷ 9 ∷ []
+unfolding twisted vectors.tabulate
+twisted-example = refl
+
+-- bench figure 6: the values 10, 7, 15, 6 in the order of Perm
+rows-example : rows 17 2 2 (1 ∷ 4 ∷ 16 ∷ 13 ∷ []) (4 ∷ 6 ∷ 15 ∷ 9 ∷ []) ≡ 10 ∷ 15 ∷ 7 ∷ 6 ∷ []
+unfolding rows stridedSum sums.sum vectors.tabulate
+rows-example = refl

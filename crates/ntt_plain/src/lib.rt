@@ -1,12 +1,13 @@
-// The number theoretic transform by written-out sums, for any size and any modulus below 2^24 (003 section 3.2, NTT'). Set 0 goes this way.
+// The number theoretic transform of any number of rows of any length by written-out sums, for any modulus below 2^24: columns, twist and rows (003 section
+// 3.2.2, algorithms 36 and 37). Rows of other lengths than 256 go this way, those of set 0 among them.
 ghost use mathlib.Core.Path.{_≡_};
-ghost use Prim.Native.Nat.{ℕ, _+_, _*_, _%_, _^_, _≤_, _<_};
-ghost use lib.ListN.{length, take};
-ghost use Rattle.maths.specs.Vector.{at, tabulate, AllBelow};
+ghost use Prim.Native.Nat.{ℕ, _+_, _*_, _/_, _%_, _^_, _≤_, _<_};
+ghost use lib.ListN.{length};
+ghost use Rattle.maths.specs.Vector.{AllBelow};
 ghost use Rattle.maths.specs.Root.{powerTable};
 ghost use Rattle.maths.specs.Congruence.{Mod};
 ghost use Rattle.maths.specs.Transform.{send, recover};
-ghost use Rattle.ntt_plain.specs.Plain.{stridedSum, Summable, Plain, values};
+ghost use Rattle.ntt_plain.specs.Plain.{stridedSum, Summable, columns, twisted, rows, scaled, Plain};
 
 // The sum of `count` numbers, `stride` places apart from `first` on, each times a power of the root; the exponents are `step` apart.
 pub fn strided_sum(
@@ -33,38 +34,139 @@ pub fn strided_sum(
     total
 }
 
-// Fills `to` with the values of the transform of `x`, each times `e`.
-fn fill_values(to: &mut [u32], x: &[u32], powers: &[u32], e: u32, q: u32)
-    requires { ⌜ Plain q (now powers) (now x) × (length (now powers) ≡ length (now to)) × (e < q) ⌝ }
-    ensures { λ _. ⌜ now (to .exit) ≡ values q e (now (powers .entry)) (now (x .entry)) ⌝ }
+// Fills `to` with values of the transforms of the columns of `x`, which has `m` rows.
+fn fill_columns(to: &mut [u32], x: &[u32], powers: &[u32], m: usize, row: usize, q: u32)
+    requires { ⌜ Plain q row (now powers) (now x) × (length (now x) ≡ m * row) × (length (now to) ≤ length (now powers)) ⌝ }
+    ensures { λ _. ⌜ now (to .exit) ≡ columns q row m (length (now (to .entry))) (now (powers .entry)) (now (x .entry)) ⌝ }
 {
     let mut i: usize = 0;
     while i < to.len() {
-        let total = residues::reduce(strided_sum(x, 0, 1, x.len(), powers, i), q);
-        to[i] = residues::multiply(e, total, q);
+        let sum = strided_sum(x, i % row, row, m, powers, i / row * row);
+        to[i] = residues::reduce(sum, q);
         i += 1;
     }
 }
 
-// The transform of the first `n` numbers of `x`, with zeros for the others, in place.
-pub fn forward(x: &mut [u32], powers: &[u32], n: usize, q: u32)
-    requires { ⌜ Plain q (now powers) (take n (now x)) × (length (now x) ≡ length (now powers)) × (length (now powers) ≤ 16) × (n ≤ length (now x)) ⌝ }
-    ensures { λ _. ⌜ ((w : ℕ) → now (powers .entry) ≡ powerTable q w (length (now (powers .entry))) → Mod q (w ^ length (now (powers .entry))) 1
-        → now (x .exit) ≡ send q 1 (length (now (powers .entry))) w (take n (now (x .entry)))) ⌝ }
+// The exponent of the twist at a place: its row times its column.
+fn twist_exponent(i: usize, row: usize) -> usize
+    requires { ⌜ 0 < row ⌝ }
+    ensures { λ r. ⌜ (r ≡ i / row * (i % row)) × (r ≤ i) ⌝ }
 {
-    let mut buffer = [0u32; 16];
-    calls::copy_in(&mut buffer, 0, &x[0..n]);
-    fill_values(x, &buffer[0..n], powers, 1, q);
+    i / row * (i % row)
 }
 
-// What a stored vector was made from: the transform with the root whose powers are lent, scaled by `e`, in place.
-pub fn inverse(x: &mut [u32], powers: &[u32], e: u32, q: u32)
-    requires { ⌜ Plain q (now powers) (now x) × (length (now x) ≡ length (now powers)) × (length (now powers) ≤ 16) × (e < q) ⌝ }
-    ensures { λ _. ⌜ ((w : ℕ) → now (powers .entry) ≡ powerTable q w (length (now (powers .entry))) → Mod q (w ^ length (now (powers .entry))) 1
-        → now (x .exit) ≡ recover q 1 (length (now (powers .entry))) w e (length (now (powers .entry))) (now (x .entry))) ⌝ }
+// Multiplies each number by the power of its row and column.
+fn twist(x: &mut [u32], powers: &[u32], row: usize, q: u32)
+    requires { ⌜ Plain q row (now powers) (now x) ⌝ }
+    ensures { λ _. ⌜ now (x .exit) ≡ twisted q row (now (powers .entry)) (now (x .entry)) ⌝ }
 {
-    let n = x.len();
-    let mut buffer = [0u32; 16];
-    calls::copy_in(&mut buffer, 0, x);
-    fill_values(x, &buffer[0..n], powers, e, q);
+    let mut i: usize = 0;
+    while i < x.len() {
+        let exponent = twist_exponent(i, row);
+        x[i] = residues::multiply(x[i], powers[exponent], q);
+        i += 1;
+    }
+}
+
+// Fills `to` with the transform of each row of `x`.
+fn fill_rows(to: &mut [u32], x: &[u32], powers: &[u32], count: usize, row: usize, q: u32)
+    requires { ⌜ Plain q row (now powers) (now x) × (length (now x) ≡ count * row) × (length (now powers) ≡ length (now x))
+        × (length (now to) ≡ length (now x)) ⌝ }
+    ensures { λ _. ⌜ now (to .exit) ≡ rows q row count (now (powers .entry)) (now (x .entry)) ⌝ }
+{
+    let mut i: usize = 0;
+    while i < to.len() {
+        let sum = strided_sum(x, i / row * row, 1, row, powers, i % row * count);
+        to[i] = residues::reduce(sum, q);
+        i += 1;
+    }
+}
+
+// Multiplies each number by `e`.
+fn scale(x: &mut [u32], e: u32, q: u32)
+    requires { ⌜ AllBelow q (length (now x)) (now x) × (e < q) × (q < 2 ^ 24) ⌝ }
+    ensures { λ _. ⌜ now (x .exit) ≡ scaled q e (now (x .entry)) ⌝ }
+{
+    let mut i: usize = 0;
+    while i < x.len() {
+        x[i] = residues::multiply(e, x[i], q);
+        i += 1;
+    }
+}
+
+// The transform of `m` rows, stored in the order of 003; `between` is lent for what comes before the rows.
+fn forward_with_buffer(
+    out: &mut [u32],
+    x: &[u32],
+    powers: &[u32],
+    m: usize,
+    count: usize,
+    row: usize,
+    q: u32,
+    between: &mut [u32],
+)
+    requires { ⌜ Plain q row (now powers) (now x) × (length (now x) ≡ m * row) × (m ≤ count) × (length (now powers) ≡ count * row)
+        × (length (now out) ≡ length (now powers)) × (length (now between) ≡ length (now powers)) ⌝ }
+    ensures { λ _. ⌜ ((w : ℕ) → now (powers .entry) ≡ powerTable q w (length (now (powers .entry))) → Mod q (w ^ length (now (powers .entry))) 1
+        → now (out .exit) ≡ send q row count w (now (x .entry))) ⌝ }
+{
+    fill_columns(between, x, powers, m, row, q);
+    twist(between, powers, row, q);
+    fill_rows(out, between, powers, count, row, q);
+}
+
+// The first rows of what a stored vector was made from, as many as `out` has, each number times `e`: the transform with the root whose powers are lent.
+fn inverse_with_buffer(
+    out: &mut [u32],
+    x: &[u32],
+    powers: &[u32],
+    e: u32,
+    count: usize,
+    row: usize,
+    q: u32,
+    between: &mut [u32],
+)
+    requires { ⌜ Plain q row (now powers) (now x) × (length (now x) ≡ count * row) × (length (now powers) ≡ length (now x)) × (e < q)
+        × (length (now out) ≤ length (now x)) × (length (now between) ≡ length (now x)) ⌝ }
+    ensures { λ _. ⌜ ((w m : ℕ) → now (powers .entry) ≡ powerTable q w (length (now (powers .entry))) → Mod q (w ^ length (now (powers .entry))) 1
+        → length (now (out .entry)) ≡ m * row → m ≤ count → now (out .exit) ≡ recover q row count w e (m * row) (now (x .entry))) ⌝ }
+{
+    fill_rows(between, x, powers, count, row, q);
+    twist(between, powers, row, q);
+    fill_columns(out, between, powers, count, row, q);
+    scale(out, e, q);
+}
+
+// The transform of `m` rows of `row` numbers, with zeros for the others of `count` rows, stored in the order of 003: row `r`, column `c` is value
+// r + count · c.
+pub fn forward(
+    out: &mut [u32],
+    x: &[u32],
+    powers: &[u32],
+    m: usize,
+    count: usize,
+    row: usize,
+    q: u32,
+)
+    requires { ⌜ Plain q row (now powers) (now x) × (length (now x) ≡ m * row) × (m ≤ count) × (length (now powers) ≡ count * row)
+        × (length (now out) ≡ length (now powers)) ⌝ }
+    ensures { λ _. ⌜ ((w : ℕ) → now (powers .entry) ≡ powerTable q w (length (now (powers .entry))) → Mod q (w ^ length (now (powers .entry))) 1
+        → now (out .exit) ≡ send q row count w (now (x .entry))) ⌝ }
+{
+    let mut between = [0u32; 3328];
+    let size = powers.len();
+    forward_with_buffer(out, x, powers, m, count, row, q, &mut between[0..size]);
+}
+
+// The first rows of what a stored vector of `count` rows was made from, as many as `out` has: the transform with the root whose powers are lent, the inverse
+// of the one it was sent with, scaled by `e`.
+pub fn inverse(out: &mut [u32], x: &[u32], powers: &[u32], e: u32, count: usize, row: usize, q: u32)
+    requires { ⌜ Plain q row (now powers) (now x) × (length (now x) ≡ count * row) × (length (now powers) ≡ length (now x)) × (e < q)
+        × (length (now out) ≤ length (now x)) ⌝ }
+    ensures { λ _. ⌜ ((w m : ℕ) → now (powers .entry) ≡ powerTable q w (length (now (powers .entry))) → Mod q (w ^ length (now (powers .entry))) 1
+        → length (now (out .entry)) ≡ m * row → m ≤ count → now (out .exit) ≡ recover q row count w e (m * row) (now (x .entry))) ⌝ }
+{
+    let mut between = [0u32; 3328];
+    let size = x.len();
+    inverse_with_buffer(out, x, powers, e, count, row, q, &mut between[0..size]);
 }

@@ -15,11 +15,11 @@ returns c w tables =
     let start = c .before .before .before .before .before .before .before in
     wide-sent (c .before .before .before .before .if1 .taken) (take (start .args .n) (start .args .x .now)) tables (c .before .before .forward-rows .ensures w)
 
-part-forward-end : tie.Need-part-forward-end
-part-forward-end c = let pre = c .before .before .before .before .pre in omega (arith, pre .0 .size)
+part-forward-numbers-end : tie.Need-part-forward-numbers-end
+part-forward-numbers-end c = let pre = c .before .before .before .before .pre in omega (arith, pre .0 .size)
 
-forward-requires : tie.Need-forward-requires
-forward-requires c κs =
+forward-numbers-requires : tie.Need-forward-numbers-requires
+forward-numbers-requires c κs =
     let start = c .before .before .before .before .before in
     rw (powers (start .args .tables .now) (start .args .rows)) (plain-forward (c .before .before .if1 .left) (start .pre .0) (start .args .x .now)
     (start .pre .1) (start .pre .2)
@@ -30,7 +30,7 @@ returns-2 c w tables =
     let start = c .before .before .before .before .before .before .before .before in
     plain-sent (c .before .before .before .before .before .if1 .left) (start .pre .0) (start .args .x .now) (start .pre .1) tables
     (take (start .args .n) (start .args .x .now))
-    (rw (powers (start .args .tables .now) (start .args .rows)) at (c .before .before .forward .ensures w))
+    (rw (powers (start .args .tables .now) (start .args .rows)) at (c .before .before .forward-numbers .ensures w))
 
 pub forward-spec : {M : Type 1} → statement M
 forward-spec =
@@ -41,7 +41,7 @@ forward-spec =
     returns
     (λ c. search needs)
     (λ c. search needs)
-    part-forward-end
-    forward-requires
+    part-forward-numbers-end
+    forward-numbers-requires
     (λ c. search needs)
     returns-2)

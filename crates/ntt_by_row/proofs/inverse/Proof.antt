@@ -16,11 +16,11 @@ returns c w tables =
     let args = c .before .before .before .before .before .before .before .args in
     wide-recovered (c .before .before .before .before .if1 .taken) (args .e) (args .m) (args .x .now) tables (c .before .before .inverse-rows .ensures w)
 
-part-inverse-end : tie.Need-part-inverse-end
-part-inverse-end c = let pre = c .before .before .before .before .pre in omega (arith, pre .0 .size)
+part-inverse-numbers-end : tie.Need-part-inverse-numbers-end
+part-inverse-numbers-end c = let pre = c .before .before .before .before .pre in omega (arith, pre .0 .size)
 
-inverse-requires : tie.Need-inverse-requires
-inverse-requires c κs =
+inverse-numbers-requires : tie.Need-inverse-numbers-requires
+inverse-numbers-requires c κs =
     let start = c .before .before .before .before .before in
     rw (powers (start .args .tables .now) (start .args .rows))
     (plain-inverse (c .before .before .if1 .left) (start .pre .0) (start .args .x .now) (start .pre .1) (start .pre .2) (start .pre .3))
@@ -29,7 +29,7 @@ returns-2 : tie.Need-returns-2
 returns-2 c w tables =
     let start = c .before .before .before .before .before .before .before .before in
     plain-recovered (c .before .before .before .before .before .if1 .left) (start .pre .0) (start .args .x .now) (start .pre .1) tables (start .args .e)
-    (start .args .m) (start .pre .4) (rw (powers (start .args .tables .now) (start .args .rows)) at (c .before .before .inverse .ensures w))
+    (start .args .m) (start .pre .4) (rw (powers (start .args .tables .now) (start .args .rows)) at (c .before .before .inverse-numbers .ensures w))
 
 pub inverse-spec : {M : Type 1} → statement M
 inverse-spec =
@@ -40,7 +40,7 @@ inverse-spec =
     returns
     (λ c. search needs)
     (λ c. search needs)
-    part-inverse-end
-    inverse-requires
+    part-inverse-numbers-end
+    inverse-numbers-requires
     (λ c. search needs)
     returns-2)

@@ -1,0 +1,45 @@
+-- `ntt_by_row::inverse_numbers` meets its contract: the transform of the numbers that were copied, scaled.
+-- Assumes nothing.
+use mathlib.Core.Path.{_≡_, refl, sym, ap, _∙_}
+use Prim.Native.Nat.{ℕ, _*_, _-_}
+use native.Mathlib.Nat.{mul-one, le-refl, le-of-eq}
+use native.Mathlib.Omega.{arith}
+use lib.ListN.{length, take}
+use Rattle.maths.specs.Transform.{recover}
+use Rattle.ntt_by_row.proofs.Lent.{copied}
+use borrow.Author.Needs.{needs}
+use Rattle.ntt_by_row.proofs.inverse_numbers.Statement.{statement}
+use Rattle.ntt_by_row.proofs.inverse_numbers.Tie as tie
+
+-- the numbers that were copied
+buffer-front : (c : tie.After-copy-in)
+    → let start = c .before .before .before .before .before in take (length (start .args .x .now) - 0) (c .copy-in .last .0) ≡ start .args .x .now
+buffer-front c =
+    let start = c .before .before .before .before .before in
+    let whole : length (start .args .x .now) - 0 ≡ length (start .args .x .now) = omega arith in
+    rw whole (copied _ _ (length (start .args .x .now)) (c .copy-in .ensures) refl (omega (arith, start .pre)))
+
+inverse-requires : tie.Need-inverse-requires
+inverse-requires c κs =
+    let start = c .before .before .before .before .before .before .before .before .before in
+    rw (buffer-front (c .before .before .before .before)) (start .pre .0, sym (mul-one _), sym (start .pre .1), start .pre .3, le-refl _)
+
+returns : tie.Need-returns
+returns c w table whole =
+    let start = c .before .before .before .before .before .before .before .before .before .before .before .before in
+    let n = length (start .args .x .now) in
+    c .before .before .inverse .ensures w n table whole (sym (mul-one n)) (le-refl n)
+    ∙ rw (buffer-front (c .before .before .before .before .before .before .before), mul-one n, start .pre .1)
+
+pub inverse-numbers-spec : {M : Type 1} → statement M
+inverse-numbers-spec =
+    tie.close
+    (tie.spec
+    (λ c. search needs)
+    (λ c κs. search needs)
+    (λ c. search needs)
+    (λ c. search needs)
+    (λ c. search needs)
+    inverse-requires
+    (λ c. search needs)
+    returns)

@@ -1,0 +1,78 @@
+-- `ntt_plain::inverse_with_buffer` meets its contract: rows, twist, columns, and the scale.
+-- Assumes nothing.
+use mathlib.Core.Path.{_≡_, sym, ap, _∙_}
+use mathlib.Core.List.{List}
+use Prim.Native.Nat.{ℕ, _*_}
+use native.Mathlib.Nat.{le-of-eq, le-trans}
+use lib.ListN.{length}
+use Rattle.ntt_plain.specs.Plain.{columns, twisted, rows, scaled}
+use Rattle.ntt_plain.proofs.Steps.{rows-twisted-length, columns-plain, twisted-plain, rows-plain, RootPowers, columns-recovered}
+use borrow.Author.Needs.{needs}
+use Rattle.ntt_plain.proofs.inverse_with_buffer.Statement.{statement}
+use Rattle.ntt_plain.proofs.inverse_with_buffer.Tie as tie
+
+-- after the twist
+twist-made : (c : tie.After-twist)
+    → let start = c .before .before .before .before .before .before .before .before .before .before in
+    c .twist .last .0 ≡ twisted (start .args .q) (start .args .row) (start .args .powers .now)
+    (rows (start .args .q) (start .args .row) (start .args .count) (start .args .powers .now) (start .args .x .now))
+twist-made c =
+    let start = c .before .before .before .before .before .before .before .before .before .before in
+    c .twist .ensures
+    ∙ ap (twisted (start .args .q) (start .args .row) (start .args .powers .now)) (c .before .before .before .before .fill-rows .ensures)
+
+-- after the columns
+columns-made : (c : tie.After-fill-columns)
+    → let start = c .before .before .before .before .before .before .before .before .before .before .before .before .before .before .before in
+    c .fill-columns .last .0 ≡ columns (start .args .q) (start .args .row) (start .args .count) (length (start .args .out .now)) (start .args .powers .now)
+    (twisted (start .args .q) (start .args .row) (start .args .powers .now)
+    (rows (start .args .q) (start .args .row) (start .args .count) (start .args .powers .now) (start .args .x .now)))
+columns-made c =
+    let start = c .before .before .before .before .before .before .before .before .before .before .before .before .before .before .before in
+    c .fill-columns .ensures
+    ∙ ap (columns (start .args .q) (start .args .row) (start .args .count) (length (start .args .out .now)) (start .args .powers .now))
+    (twist-made (c .before .before .before .before .before))
+
+twist-requires : tie.Need-twist-requires
+twist-requires c κs =
+    let start = c .before .before .before .before .before .before .before .before .before in
+    rw (c .before .before .before .fill-rows .ensures) (rows-plain (start .pre .0) (start .args .count))
+
+fill-columns-requires : tie.Need-fill-columns-requires
+fill-columns-requires c κs =
+    let start = c .before .before .before .before .before .before .before .before .before .before .before .before .before .before in
+    let long = rows-twisted-length (start .args .q) (start .args .row) (start .args .count) (start .args .powers .now) (start .args .x .now) in
+    rw (twist-made (c .before .before .before .before))
+    (twisted-plain (rows-plain (start .pre .0) (start .args .count)), long ∙ start .pre .1, le-trans (start .pre .4) (le-of-eq (sym (start .pre .2))))
+
+scale-requires : tie.Need-scale-requires
+scale-requires c κs =
+    let start = c .before .before .before .before .before .before .before .before .before .before .before .before .before .before .before .before .before .before in
+    let plain = columns-plain (twisted-plain (rows-plain (start .pre .0) (start .args .count))) (start .args .count) (length (start .args .out .now))
+    (le-trans (start .pre .4) (le-of-eq (sym (start .pre .2)))) in
+    rw (columns-made (c .before .before .before)) (plain .numbers, start .pre .3, start .pre .0 .modulus)
+
+returns : tie.Need-returns
+returns c w m table whole size fits =
+    let late = c .before .before .before .before .before .before in
+    let start = late .before .before .before .before .before .before .before .before .before .before .before .before .before .before .before in
+    let root : RootPowers (start .args .q) (start .args .row) (start .args .count) w (start .args .powers .now) =
+    record { some-columns = start .pre .0 .some-columns; size = start .pre .2 ∙ start .pre .1; table = table; whole = whole } in
+    c .before .before .scale .ensures
+    ∙ ap (scaled (start .args .q) (start .args .e)) (columns-made late
+    ∙ ap (λ (n : ℕ). columns (start .args .q) (start .args .row) (start .args .count) n (start .args .powers .now)
+    (twisted (start .args .q) (start .args .row) (start .args .powers .now)
+    (rows (start .args .q) (start .args .row) (start .args .count) (start .args .powers .now) (start .args .x .now)))) size)
+    ∙ columns-recovered root m (start .args .e) (start .args .x .now) fits (start .pre .1)
+
+pub inverse-with-buffer-spec : {M : Type 1} → statement M
+inverse-with-buffer-spec =
+    tie.close
+    (tie.spec
+    (λ c κs. search needs)
+    twist-requires
+    fill-columns-requires
+    scale-requires
+    (λ c. search needs)
+    (λ c. search needs)
+    returns)
