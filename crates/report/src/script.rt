@@ -1,12 +1,12 @@
-// A script: lines of numbers, of which the first says what to do and the others with what. The comparison writes it beside what must be printed.
-ghost use Prim.Native.Nat.{_<_, _≤_};
-ghost use lib.ListN.{length};
+// A script: lines of numbers, of which the first says what to do and the others with what. The comparison writes it beside what must be printed;
+// a program reads it from standard input, byte by byte, and so holds no more of it than a line.
+use libc::STDIN_FILENO;
 
-// A number of a script, where the text after it begins, and whether it is the last one of its line.
-pub struct Number {
-    pub value: usize,
-    pub next: usize,
-    pub is_last: bool,
+// The next byte of standard input, or 0 where that has ended.
+fn next_byte() -> u8 {
+    let mut byte = [0u8];
+    io::read_full(STDIN_FILENO, &mut byte);
+    byte[0]
 }
 
 // A number with one digit more, or the largest number where that is no number of 64 bits.
@@ -17,65 +17,52 @@ fn with_digit(value: usize, digit: u8) -> usize {
     value * 10 + (digit % 16) as usize
 }
 
-// The number that begins at a place. A byte below those of the digits ends it; a line end ends its line too.
-fn number_at(script: &[u8], from: usize) -> Number
-    ensures { λ r. ⌜ (from < length (now (script .entry)) → from < r .next) ⌝ }
-{
+// A number of a script, and the byte that ended it.
+struct Number {
+    value: usize,
+    end: u8,
+}
+
+// The next number. A byte below those of the digits ends it; so do 32 digits, which no number has.
+fn next_number() -> Number {
     let mut value: usize = 0;
-    let mut at = from;
-    while at < script.len() {
-        let byte = script[at];
-        at += 1;
+    let mut left: usize = 32;
+    while 0 < left {
+        let byte = next_byte();
         if byte < b'0' {
-            return Number {
-                value,
-                next: at,
-                is_last: byte == b'\n',
-            };
+            return Number { value, end: byte };
         }
         value = with_digit(value, byte);
+        left -= 1;
     }
-    Number {
-        value,
-        next: at,
-        is_last: true,
-    }
+    Number { value, end: 0 }
 }
 
-// The numbers of a line, at most 16, with zeros after them, and where the next line begins.
+// The numbers of a line, at most 16, with zeros after them, or the end of the script.
 pub struct Line {
     pub values: [usize; 16],
-    pub next: usize,
+    pub is_end: bool,
 }
 
-// The line that begins at a place.
-pub fn line_at(script: &[u8], from: usize) -> Line
-    ensures { λ r. ⌜ (from < length (now (script .entry)) → from < r .next) ⌝ }
-{
+// The next line.
+pub fn next_line() -> Line {
     let mut values = [0usize; 16];
-    let first = number_at(script, from);
-    values[0] = first.value;
-    let mut next = first.next;
-    let mut is_last = first.is_last;
-    let mut i: usize = 1;
+    let mut i: usize = 0;
     while i < 16 {
-        if is_last {
-            return Line { values, next };
+        let number = next_number();
+        values[i] = number.value;
+        if number.end < b' ' {
+            return Line {
+                values,
+                is_end: number.end == 0,
+            };
         }
-        let n = number_at(script, next);
-        values[i] = n.value;
-        next = at_least(n.next, next);
-        is_last = n.is_last;
         i += 1;
     }
-    Line { values, next }
-}
-
-// A number, or the least that it may be.
-fn at_least(x: usize, least: usize) -> usize
-    ensures { λ r. ⌜ least ≤ r ⌝ }
-{
-    if x < least { least } else { x }
+    Line {
+        values,
+        is_end: true,
+    }
 }
 
 // Prints the text whose bytes stand after the command of a line, up to the first 0.

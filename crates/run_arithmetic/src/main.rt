@@ -4,8 +4,6 @@ mod fills;
 mod open;
 mod vectors;
 
-use libc::STDIN_FILENO;
-
 // Where the calls find polynomials a, a secret, a key, a message and the two parts of what was sealed.
 const A: usize = 0;
 
@@ -37,21 +35,22 @@ fn step(line: [usize; 16], numbers: &mut [u32], signed: &mut [i32]) {
     }
 }
 
-// Runs every line.
-fn run(script: &[u8], numbers: &mut [u32], signed: &mut [i32]) {
-    let mut at: usize = 0;
-    while at < script.len() {
-        let line = report::script::line_at(script, at);
+// Runs every line, of fewer than a million.
+fn run(numbers: &mut [u32], signed: &mut [i32]) {
+    let mut left: usize = 1000000;
+    while 0 < left {
+        let line = report::script::next_line();
+        if line.is_end {
+            return;
+        }
         let values = line.values;
         step(values, numbers, signed);
-        at = line.next;
+        left -= 1;
     }
 }
 
 fn main() {
-    let mut script = [0u8; 131072];
     let mut numbers = [0u32; 33800];
     let mut signed = [0i32; 18500];
-    let end = io::read_full(STDIN_FILENO, &mut script);
-    run(report::front(&script, end), &mut numbers, &mut signed);
+    run(&mut numbers, &mut signed);
 }

@@ -4,8 +4,6 @@ mod lent;
 mod seeded;
 mod sponges;
 
-use libc::STDIN_FILENO;
-
 // Fills a part of a store, a place and so many bytes: with a pattern, with one byte, or with the random bytes of a group and a slice.
 fn fill(line: [usize; 16], bytes: &mut [u8]) {
     let part = report::part_mut(bytes, line[1], line[2]);
@@ -29,21 +27,22 @@ fn step(line: [usize; 16], bytes: &mut [u8], out: &mut [u8]) {
     }
 }
 
-// Runs every line.
-fn run(script: &[u8], bytes: &mut [u8], out: &mut [u8]) {
-    let mut at: usize = 0;
-    while at < script.len() {
-        let line = report::script::line_at(script, at);
+// Runs every line, of fewer than a million.
+fn run(bytes: &mut [u8], out: &mut [u8]) {
+    let mut left: usize = 1000000;
+    while 0 < left {
+        let line = report::script::next_line();
+        if line.is_end {
+            return;
+        }
         let values = line.values;
         step(values, bytes, out);
-        at = line.next;
+        left -= 1;
     }
 }
 
 fn main() {
-    let mut script = [0u8; 131072];
     let mut bytes = [0u8; 65537];
     let mut out = [0u8; 65537];
-    let end = io::read_full(STDIN_FILENO, &mut script);
-    run(report::front(&script, end), &mut bytes, &mut out);
+    run(&mut bytes, &mut out);
 }

@@ -6,8 +6,6 @@ mod sheets;
 mod store;
 mod whole;
 
-use libc::STDIN_FILENO;
-
 // One command that prints or fills the store.
 fn run_plain(line: [usize; 16], store: &mut [u8]) {
     let command = line[0];
@@ -27,33 +25,37 @@ fn run_plain(line: [usize; 16], store: &mut [u8]) {
 fn run_line(line: [usize; 16], store: &mut [u8]) {
     let command = line[0];
     match command {
-        8 => schemes::key_line(line, store),
-        9 => schemes::seal_line(line, store),
-        10 => schemes::open_line(line, store),
-        11 => whole::seal_and_read(line, store),
-        12 => whole::share_a_key(line, store),
-        13 => inner::open(line, store),
-        14 => inner::print_unpacked(line, store),
-        15 => sheets::print_sheet(line, store),
-        16 => sheets::print_bound(line),
+        8 => schemes::encryption_key(line, store),
+        9 => schemes::exchange_key(line, store),
+        10 => schemes::encrypt(line, store),
+        11 => schemes::encapsulate(line, store),
+        12 => schemes::decrypt(line, store),
+        13 => schemes::decapsulate(line, store),
+        14 => whole::seal_and_read(line, store),
+        15 => whole::share_a_key(line, store),
+        16 => inner::open(line, store),
+        17 => inner::print_unpacked(line, store),
+        18 => sheets::print_sheet(line, store),
+        19 => sheets::print_bound(line),
         _ => run_plain(line, store),
     }
 }
 
-// All commands of a script.
-fn run(script: &[u8], store: &mut [u8]) {
-    let mut at: usize = 0;
-    while at < script.len() {
-        let line = report::script::line_at(script, at);
+// All commands of a script, of fewer than a million.
+fn run(store: &mut [u8]) {
+    let mut left: usize = 1000000;
+    while 0 < left {
+        let line = report::script::next_line();
+        if line.is_end {
+            return;
+        }
         let values = line.values;
         run_line(values, store);
-        at = line.next;
+        left -= 1;
     }
 }
 
 fn main() {
-    let mut script = [0u8; 400000];
     let mut store = [0u8; store::END];
-    let end = io::read_full(STDIN_FILENO, &mut script);
-    run(report::front(&script, end), &mut store);
+    run(&mut store);
 }

@@ -154,15 +154,11 @@ impl Arithmetic {
     }
 }
 
-/// How many bytes the program reads.
-const MOST: usize = 131072;
-
 pub fn script() -> Script {
     let mut run = Arithmetic::new();
     numbers::run(&mut run);
     middle::run(&mut run);
     transforms::run(&mut run);
     damage_arithmetic::run(&mut run);
-    assert!(run.script.commands.len() < MOST);
     run.script
 }

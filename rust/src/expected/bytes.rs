@@ -11,9 +11,6 @@ use crate::sponge::{kmac256, kmacxof256, shake256};
 /// The most bytes that a slice of a hash may have.
 pub const LIMIT: usize = 65536;
 
-/// How many bytes the program reads.
-const MOST: usize = 131072;
-
 pub struct Bytes {
     pub script: Script,
     pub bytes: Vec<u8>,
@@ -172,6 +169,5 @@ pub fn script() -> Script {
     draws::run(&mut run);
     samplers::run(&mut run);
     damage_bytes::run(&mut run);
-    assert!(run.script.commands.len() < MOST);
     run.script
 }

@@ -108,10 +108,9 @@ pub fn over_pattern(length: usize, start: usize, made: Option<&[u8]>) -> Vec<u8>
 }
 
 impl Store {
-    /// The command of a call, with a length for each slice that the call has in either scheme; one that it has not is 0 long.
+    /// The command of a call, with the length of each slice.
     fn call(&mut self, command: Command, call: Call, lengths: &[usize]) {
-        let Call { is_exchange, number, change, shown } = call;
-        self.command(command, &[&[is_exchange as usize, shown as usize, number, change], lengths].concat());
+        self.command(command, &[&[call.shown as usize, call.number, call.change], lengths].concat());
     }
 
     fn print_call<T>(&mut self, call: Call, name: &str, slices: &[u8], given: &Result<T, Refusal>, outputs: &str) {
@@ -124,8 +123,9 @@ impl Store {
 
     pub fn key(&mut self, call: Call) {
         let [public, secret, _, work, _] = SETS[call.number];
-        self.call(Command::Key, call, &call.changed([32, public, secret, work]));
+        let command = if call.is_exchange { Command::ExchangeKey } else { Command::EncryptionKey };
         let make = if call.is_exchange { exchange_key } else { key };
+        self.call(command, call, &call.changed([32, public, secret, work]));
         let made = call.checked(KEY).and_then(|s| make(&s, self.part(SEED, 32)));
         let public = over_pattern(26913, 1, made.as_ref().ok().map(|(public, _)| &public[..]));
         let secret = over_pattern(26945, 2, made.as_ref().ok().map(|(_, secret)| &secret[..]));
@@ -137,8 +137,7 @@ impl Store {
 
     fn encrypt(&mut self, call: Call) {
         let [public, _, sealed, work, _] = SETS[call.number];
-        let [key, message, seed, ciphertext, work] = call.changed([public, 32, 32, sealed, work]);
-        self.call(Command::Seal, call, &[key, message, seed, ciphertext, 0, work]);
+        self.call(Command::Encrypt, call, &call.changed([public, 32, 32, sealed, work]));
         let made = call.checked(ENCRYPT).and_then(|s| encrypt(&s, self.part(PUBLIC, public), self.part(MESSAGE, 32), self.part(SEALING, 32)));
         let sealed = over_pattern(8353, 3, made.as_ref().ok().map(|sealed| &sealed[..]));
         self.leave(SEALED, &sealed);
@@ -147,8 +146,7 @@ impl Store {
 
     fn encapsulate(&mut self, call: Call) {
         let [public, _, sealed, work, _] = SETS[call.number];
-        let [key, message, ciphertext, shared, work] = call.changed([public, 32, sealed, 32, work]);
-        self.call(Command::Seal, call, &[key, message, 0, ciphertext, shared, work]);
+        self.call(Command::Encapsulate, call, &call.changed([public, 32, sealed, 32, work]));
         let made = call.checked(ENCAPSULATE).and_then(|s| encapsulate(&s, self.part(PUBLIC, public), self.part(MESSAGE, 32)));
         let sealed = over_pattern(8353, 3, made.as_ref().ok().map(|(sealed, _)| &sealed[..]));
         let shared = over_pattern(33, 4, made.as_ref().ok().map(|(_, shared)| &shared[..]));
@@ -166,8 +164,8 @@ impl Store {
 
     pub fn open(&mut self, call: Call) {
         let [_, secret, sealed, work, _] = SETS[call.number];
-        self.call(Command::Open, call, &call.changed([secret, sealed, 32, work]));
-        let (name, start) = if call.is_exchange { ("decapsulate", 5) } else { ("decrypt", 4) };
+        let (command, name, start) = if call.is_exchange { (Command::Decapsulate, "decapsulate", 5) } else { (Command::Decrypt, "decrypt", 4) };
+        self.call(command, call, &call.changed([secret, sealed, 32, work]));
         let open = if call.is_exchange { decapsulate } else { decrypt };
         let made = call.checked(OPEN).and_then(|s| open(&s, self.part(SECRET, secret), self.part(SEALED, sealed)));
         let opened = over_pattern(33, start, made.as_ref().ok().map(|read| &read[..]));

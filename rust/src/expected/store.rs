@@ -20,9 +20,6 @@ pub const OPENED: usize = 62309;
 const SPARE: usize = 62342;
 const END: usize = 62406;
 
-/// How many bytes of a script run_scheme reads.
-const SCRIPT: usize = 400000;
-
 /// The commands, by the numbers that run_scheme knows them by.
 #[derive(Clone, Copy)]
 pub enum Command {
@@ -34,9 +31,12 @@ pub enum Command {
     Text,
     Hex,
     Digest,
-    Key,
-    Seal,
-    Open,
+    EncryptionKey,
+    ExchangeKey,
+    Encrypt,
+    Encapsulate,
+    Decrypt,
+    Decapsulate,
     SealAndRead,
     ShareAKey,
     Read,
@@ -57,7 +57,6 @@ impl Store {
 
     /// The script, and what the program prints as it runs it.
     pub fn script(self) -> Script {
-        assert!(self.script.commands.len() < SCRIPT);
         self.script
     }
 
