@@ -17,13 +17,17 @@
  *   work            12022  14328  16375  16631  17913  22521  12022  15831  17910  18166  19960  25080  numbers of 32 bits
  *   work of the transformed middle product: 4 for set 0, else
  *                    1280   1536   1792   2048   2560   3328   1280   1536   1792   2048   2560   3328  numbers of 32 bits
+ *   transform        512    768    768    768   1024   1280    512    768    768    768   1024   1280  numbers of 32 bits
+ *     sizes         1024   1280   1536   1792   2304   3072   1024   1280   1536   1792   2304   3072
+ *                   1280   1536   1792   2048   2560   3328   1280   1536   1792   2048   2560   3328
  *
  * Answers. 0 where the call is accepted; else the number of the refusal plus 256 times its place. A refused call leaves every output as it was.
  * Checks come in the order of the numbers given with each call. A work slice is all zero after a call that passed its checks of the set and the
  * lengths, else untouched.
  *
  *   1  no such set
- *   2  a slice has not the set's length; in the encryption scheme and the key exchange that of a seed, a message, a key or a shared key
+ *   2  a slice has not the set's length; in the encryption scheme and the key exchange that of a seed, a message, a key or a shared key; in the
+ *      partial transform and its inverse a slice has not d1 * d2 numbers
  *   3  a number out of range, with its place
  *   4  the lent bytes end
  *   5  128 candidates in a row were set aside (it is not expected to happen)
@@ -32,6 +36,8 @@
  *   8  a set of the other scheme
  *   9  the ciphertext has not the set's length (encryption scheme and key exchange)
  *  10  the work slice has not the set's length (encryption scheme and key exchange)
+ *  11  m is 0 or above d1 (partial transform and its inverse)
+ *  12  d1 * d2 is no transform size of the set (partial transform and its inverse)
  *
  * docs/REFUSALS.md says for each what to look at. Later versions may add numbers: take one that is not known for a refusal of its own.
  */
@@ -135,6 +141,23 @@ uint64_t titanium_middle_product(size_t set, const uint32_t *a, size_t a_length,
                                  size_t out_length);
 uint64_t titanium_transformed_middle_product(size_t set, const uint32_t *a, size_t a_length, const uint32_t *b, size_t b_length,
                                              uint32_t *out, size_t out_length, uint32_t *work, size_t work_length);
+
+/* The partial transform and its inverse, sets 1 to 12 (003, section 3.2.2): the transform with the set's root of the size d1 * d2, any d1 and d2 whose
+   product is a transform size of the set. The numbers stand in d1 rows of d2; a transformed vector has at place d2 * r + c the value r + d1 * c of the
+   transform. Rows of 256 numbers go through the scheme's own transforms; with other lengths each number takes some d1 + d2 products. input and output must
+   not overlap; no work slice is lent. Refused in this order, and the place is 0 but for 3:
+     1   the set is not 1 to 12
+     11  m is 0 or above d1
+     12  d1 * d2 is no transform size of the set; the product is that of whole numbers, and never wraps round
+     2   input or output has not d1 * d2 numbers
+     3   a number of the input is q or more, those that are skipped among them; the place is the first such number's
+   The transform takes the first m rows, and zeros for the others whatever stands there, and writes all of output. The inverse reads all of input, in the
+   order in which the transform writes, and writes the first m rows of what it was made from; the rest of output keeps its numbers. A refused call leaves
+   all of output as it was. */
+uint64_t titanium_partial_transform(size_t set, size_t d1, size_t d2, size_t m, const uint32_t *input, size_t input_length,
+                                    uint32_t *output, size_t output_length);
+uint64_t titanium_partial_inverse(size_t set, size_t d1, size_t d2, size_t m, const uint32_t *input, size_t input_length,
+                                  uint32_t *output, size_t output_length);
 
 /* Key, sealing and reading on numbers, sets 0 to 12. Refused with 1, 2, 3; the place is counted through a, s, e for a key, through a, b, r,
    message for a sealing, through c1, c2, s for a reading. */

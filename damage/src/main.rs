@@ -6,6 +6,7 @@
 mod bytes;
 mod lent;
 mod numbers;
+mod partial;
 mod random;
 mod scheme;
 
@@ -15,10 +16,12 @@ fn main() {
     let words: Vec<u64> = std::env::args().skip(1).map(|word| word.parse().expect("a number")).collect();
     let rounds = words.first().copied().unwrap_or(200);
     let mut random = Random::new(words.get(1).copied().unwrap_or(1));
-    let mut refused = [0u64; 11];
+    let mut refused = [0u64; 13];
     for _ in 0..rounds {
-        for number in scheme::round(&mut random).into_iter().chain(numbers::round(&mut random)).chain(bytes::round(&mut random)) {
-            refused[number as usize] += 1;
+        for round in [scheme::round, numbers::round, partial::round, bytes::round] {
+            for number in round(&mut random) {
+                refused[number as usize] += 1;
+            }
         }
     }
     println!("{} calls agree; accepted and refused by number: {refused:?}", refused.iter().sum::<u64>());

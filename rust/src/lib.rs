@@ -7,6 +7,7 @@ pub mod expected;
 pub mod numbers;
 pub mod packing;
 pub mod parameters;
+pub mod partial;
 pub mod scheme;
 pub mod sheet;
 pub mod sponge;

@@ -3,6 +3,7 @@
 use comparison::arithmetic::Transform;
 use comparison::draws::{key_errors, sealing_multipliers};
 use comparison::parameters::{set, Set};
+use comparison::partial::{partial_inverse, partial_transform};
 use comparison::scheme::{
     decapsulate, decrypt, encapsulate, encrypt, exchange_key, key, public_polynomials, sealed_numbers, secret, secret_numbers,
 };
@@ -132,5 +133,26 @@ fn every_set_reads_back_what_it_sealed() {
             assert_eq!(ciphertext.len(), s.ciphertext_bytes());
             assert_eq!(decrypt(&s, &secret, &ciphertext).unwrap(), message);
         }
+    }
+}
+
+/// Both partial transforms of the rows of vectors/partial.txt.
+#[test]
+fn partial_transforms() {
+    let size = 768;
+    let s = set(2).unwrap();
+    let input: Vec<u32> = (0..size as u64).map(|i| ((31 * i * i + 7 * i + 5) % s.q) as u32).collect();
+    for line in include_str!("../vectors/partial.txt").lines().filter(|line| !line.starts_with('#')) {
+        let words: Vec<&str> = line.split(' ').collect();
+        let split = [1, 2, 3].map(|i| words[i].parse().unwrap());
+        let made = if words[0] == "forward" {
+            partial_transform(set(2), split, &input, size).unwrap()
+        } else {
+            let mut made = partial_inverse(set(2), split, &input, size).unwrap();
+            made.resize(size, words[5].parse().unwrap());
+            made
+        };
+        let bytes: Vec<u8> = made.iter().flat_map(|x| x.to_le_bytes()).collect();
+        assert_eq!(digest(&bytes), *words.last().unwrap());
     }
 }

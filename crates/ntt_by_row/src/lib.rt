@@ -49,8 +49,19 @@ fn forward_numbers(x: &mut [u32], powers: &[u32], n: usize, q: u32)
         → now (x .exit) ≡ send q 1 (length (now (powers .entry))) w (take n (now (x .entry)))) ⌝ }
 {
     let mut buffer = [0u32; 16];
+    let mut between = [0u32; 16];
+    let count = powers.len();
     calls::copy_in(&mut buffer, 0, &x[0..n]);
-    ntt_plain::forward(x, &buffer[0..n], powers, n, powers.len(), 1, q);
+    ntt_plain::forward_with_buffer(
+        x,
+        &buffer[0..n],
+        powers,
+        n,
+        count,
+        1,
+        q,
+        &mut between[0..count],
+    );
 }
 
 // The transform of the first `n` numbers of `x`, with zeros for the others, whatever stands there.
@@ -90,8 +101,9 @@ fn inverse_numbers(x: &mut [u32], powers: &[u32], e: u32, q: u32)
 {
     let n = x.len();
     let mut buffer = [0u32; 16];
+    let mut between = [0u32; 16];
     calls::copy_in(&mut buffer, 0, x);
-    ntt_plain::inverse(x, &buffer[0..n], powers, e, n, 1, q);
+    ntt_plain::inverse_with_buffer(x, &buffer[0..n], powers, e, n, 1, q, &mut between[0..n]);
 }
 
 // The first `m` numbers of what a stored vector was made from: the transform with the root whose tables are lent, the inverse of the one it was sent

@@ -10,7 +10,7 @@ ghost use Rattle.maths.specs.Transform.{send, recover};
 ghost use Rattle.ntt_plain.specs.Plain.{stridedSum, Summable, columns, twisted, rows, scaled, Plain};
 
 // The sum of `count` numbers, `stride` places apart from `first` on, each times a power of the root; the exponents are `step` apart.
-pub fn strided_sum(
+fn strided_sum(
     x: &[u32],
     first: usize,
     stride: usize,
@@ -95,7 +95,7 @@ fn scale(x: &mut [u32], e: u32, q: u32)
 }
 
 // The transform of `m` rows, stored in the order of 003; `between` is lent for what comes before the rows.
-fn forward_with_buffer(
+pub fn forward_with_buffer(
     out: &mut [u32],
     x: &[u32],
     powers: &[u32],
@@ -116,7 +116,7 @@ fn forward_with_buffer(
 }
 
 // The first rows of what a stored vector was made from, as many as `out` has, each number times `e`: the transform with the root whose powers are lent.
-fn inverse_with_buffer(
+pub fn inverse_with_buffer(
     out: &mut [u32],
     x: &[u32],
     powers: &[u32],

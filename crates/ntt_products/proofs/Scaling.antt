@@ -4,7 +4,6 @@ use mathlib.Core.Path.{_≡_, sym, _∙_}
 use mathlib.Core.List.{List}
 use Prim.Native.Nat.{ℕ, _+_, _*_, _/_, _%_, _^_, _≤_, _<_}
 use native.Mathlib.Omega.{arith}
-use lib.ListN.{length}
 use Rattle.maths.specs.Vector.{at}
 use Rattle.maths.specs.Congruence.{Mod}
 use Rattle.maths.specs.Transform.{transformAt, invPerm, recover}

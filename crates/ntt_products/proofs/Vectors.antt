@@ -2,7 +2,7 @@
 -- Assumes nothing.
 use mathlib.Core.Path.{_≡_, sym, _∙_}
 use mathlib.Core.List.{List}
-use Prim.Native.Nat.{ℕ, _*_, _^_, _≤_, _<_}
+use Prim.Native.Nat.{ℕ, _^_, _≤_, _<_}
 use native.Mathlib.Omega.{arith}
 use lib.ListN.{length}
 use Rattle.maths.specs.Transform.{send, recover}
@@ -11,7 +11,7 @@ use Rattle.maths.specs.Vector.{AllBelow}
 use Rattle.ntt.proofs.Whole.{send-below, recover-below}
 use Rattle.sets.specs.Table.{setOf, IsSet}
 use Rattle.sets.specs.Derived.{transformSize}
-use Rattle.ntt_products.specs.Stored.{rowCount, sizeInverse, sent, sentInverse, recoveredInverse, recovered, products}
+use Rattle.ntt_products.specs.Stored.{rowCount, sent, sentInverse, recoveredInverse, recovered, products}
 use Rattle.ntt_products.specs.Placed.{Placed}
 use Rattle.ntt_products.proofs.Pointwise.{products-length, products-below}
 use Rattle.ntt_products.proofs.Sizes.{size-rows, some-modulus, small-modulus}

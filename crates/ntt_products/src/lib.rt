@@ -57,7 +57,7 @@ fn rows_of(p: Parameters, i: usize) -> usize
 }
 
 // The inverse of the size of transform number i, modulo q.
-fn size_inverse_of(p: Parameters, i: usize) -> u32
+pub fn size_inverse_of(p: Parameters, i: usize) -> u32
     requires { ⌜ Rules p ⌝ }
     ensures { λ r. ⌜ r ≡ sizeInverse p i ⌝ }
 {
@@ -74,7 +74,7 @@ fn scaled_inverse_of(p: Parameters, i: usize) -> u32
 }
 
 // Fills `out` with the powers of the inverse of root number i of a set.
-fn load_inverse_powers(set: usize, i: usize, out: &mut [u32])
+pub fn load_inverse_powers(set: usize, i: usize, out: &mut [u32])
     requires { ⌜ IsSet set × (length (now out) ≡ transformSize (setOf set) i) ⌝ }
     ensures { λ _. ⌜ now (out .exit) ≡ inversePowers (setOf set) i ⌝ }
 {

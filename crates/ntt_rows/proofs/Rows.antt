@@ -9,7 +9,7 @@ use lib.ListN.{length, take, drop, length-take, length-drop}
 use lib.Seq.{getD-take, getD-drop}
 use Rattle.maths.specs.Vector.{at, tabulate}
 use Rattle.maths.specs.Congruence.{Mod}
-use Rattle.maths.proofs.Vector.{tabulate-at, tabulate-unique}
+use Rattle.maths.proofs.Vector.{tabulate-at}
 use Rattle.maths.proofs.Congruence.{mod-refl, mod-trans, mod-mul}
 use Rattle.maths.proofs.Power.{pow-mul}
 use Rattle.maths.proofs.Convolution.{transform-mod}

@@ -67,7 +67,7 @@ pub fn answer(given: Answer) {
 }
 
 // The checksum of one number more: a polynomial modulo the prime 2^32 - 5.
-fn mixed(sum: u64, x: u64) -> u64
+fn summed(sum: u64, x: u64) -> u64
     requires { ⌜ (sum < 4294967291) × (x < 4294967296) ⌝ }
     ensures { λ r. ⌜ r < 4294967291 ⌝ }
 {
@@ -79,7 +79,7 @@ pub fn byte_sum(values: &[u8]) {
     let mut sum: u64 = 0;
     let mut i: usize = 0;
     while i < values.len() {
-        sum = mixed(sum, wide(values[i]));
+        sum = summed(sum, wide(values[i]));
         i += 1;
     }
     number(sum);
@@ -97,7 +97,7 @@ pub fn number_sum(values: &[u32]) {
     let mut sum: u64 = 0;
     let mut i: usize = 0;
     while i < values.len() {
-        sum = mixed(sum, wider(values[i]));
+        sum = summed(sum, wider(values[i]));
         i += 1;
     }
     number(sum);
@@ -127,7 +127,7 @@ pub fn signed_sum(values: &[i32]) {
     let mut sum: u64 = 0;
     let mut i: usize = 0;
     while i < values.len() {
-        sum = mixed(sum, raised(values[i]));
+        sum = summed(sum, raised(values[i]));
         i += 1;
     }
     number(sum);

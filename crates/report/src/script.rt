@@ -9,7 +9,7 @@ fn next_byte() -> u8 {
     byte[0]
 }
 
-// A number with one digit more, or the largest number where that is no number of 64 bits.
+// A number with one digit more, or the largest number of 64 bits from 18,446,744,073,709,551,610 on.
 fn with_digit(value: usize, digit: u8) -> usize {
     if 1844674407370955161 <= value {
         return 18446744073709551615;
@@ -91,6 +91,6 @@ pub fn operands(line: [usize; 16], count: usize) {
 }
 
 // The lowest 32 bits of an operand.
-pub fn word(x: usize) -> u32 {
+pub fn low_word(x: usize) -> u32 {
     (x % 4294967296) as u32
 }

@@ -3,7 +3,7 @@ use report::script;
 
 // Residues from the generator: where it goes on from, and the modulus.
 fn residues(line: [usize; 16], numbers: &mut [u32]) {
-    let q = script::word(line[4]);
+    let q = script::low_word(line[4]);
     if 0 < q {
         report::fill_residues(
             report::numbers_mut(numbers, line[1], line[2]),
@@ -19,7 +19,7 @@ fn random_residues(line: [usize; 16], numbers: &mut [u32]) {
         report::numbers_mut(numbers, line[1], line[2]),
         line[3],
         line[4],
-        script::word(line[5]),
+        script::low_word(line[5]),
     );
 }
 
@@ -27,7 +27,7 @@ fn random_residues(line: [usize; 16], numbers: &mut [u32]) {
 fn put(line: [usize; 16], numbers: &mut [u32]) {
     let place = line[1];
     if place < numbers.len() {
-        numbers[place] = script::word(line[2]);
+        numbers[place] = script::low_word(line[2]);
     }
 }
 

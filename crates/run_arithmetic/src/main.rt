@@ -1,5 +1,5 @@
-// Runs a script of the arithmetic layer: key, sealing and reading on numbers, the middle products and the transforms. Two stores hold what the calls are
-// given: residues and bits, and signed numbers.
+// Runs a script of the arithmetic layer: key, sealing and reading on numbers, the middle products and the transforms, whole and partial. Two stores hold
+// what the calls are given: residues and bits, and signed numbers.
 mod fills;
 mod open;
 mod vectors;
@@ -30,12 +30,12 @@ fn step(line: [usize; 16], numbers: &mut [u32], signed: &mut [i32]) {
     match line[0] {
         0 | 1 | 2 | 3 => fills::step(line, numbers),
         4 | 5 | 6 => fills::signed_step(line, signed),
-        7 | 8 | 9 | 10 | 11 => open::call(line, numbers, signed),
+        7 | 8 | 9 | 10 | 11 | 17 | 18 => open::call(line, numbers, signed),
         _ => vectors::step(line, numbers),
     }
 }
 
-// Runs every line, of fewer than a million.
+// Runs every line, of at most a million.
 fn run(numbers: &mut [u32], signed: &mut [i32]) {
     let mut left: usize = 1000000;
     while 0 < left {
@@ -50,7 +50,7 @@ fn run(numbers: &mut [u32], signed: &mut [i32]) {
 }
 
 fn main() {
-    let mut numbers = [0u32; 33800];
+    let mut numbers = [0u32; END];
     let mut signed = [0i32; 18500];
     run(&mut numbers, &mut signed);
 }

@@ -1,4 +1,5 @@
-// The open calls: the middle product, plain and transformed, and key, sealing and reading on numbers. A line has the set and the lengths of the slices.
+// The open calls: the middle product, plain and transformed, key, sealing and reading on numbers, and the partial transforms. A line has the set, what else a
+// call is told, and the lengths of the slices.
 use crate::fills;
 use calls::Answer;
 
@@ -75,6 +76,32 @@ fn reading(line: [usize; 16], numbers: &[u32], bits: &mut [u32]) -> Answer {
     )
 }
 
+// The partial transform of a in rows and columns.
+fn partial_transform(line: [usize; 16], numbers: &[u32], out: &mut [u32]) -> Answer {
+    named(b"partial_transform", line, 6);
+    ntt_partial::forward(
+        line[1],
+        line[2],
+        line[3],
+        line[4],
+        report::numbers(numbers, crate::A, line[5]),
+        report::numbers_mut(out, 0, line[6]),
+    )
+}
+
+// Its inverse.
+fn partial_inverse(line: [usize; 16], numbers: &[u32], out: &mut [u32]) -> Answer {
+    named(b"partial_inverse", line, 6);
+    ntt_partial::inverse(
+        line[1],
+        line[2],
+        line[3],
+        line[4],
+        report::numbers(numbers, crate::A, line[5]),
+        report::numbers_mut(out, 0, line[6]),
+    )
+}
+
 // What a call writes: how many numbers its two slices have, and the places where they are kept for the calls that follow.
 struct Outputs {
     first: usize,
@@ -86,7 +113,7 @@ struct Outputs {
 // Each call's.
 fn outputs_of(command: usize) -> Outputs {
     match command {
-        7 => Outputs {
+        7 | 17 | 18 => Outputs {
             first: 4097,
             second: 0,
             first_place: crate::END,
@@ -132,6 +159,8 @@ fn answer(
         8 => transformed(line, numbers, first, second),
         9 => key(line, numbers, signed, first),
         10 => sealing(line, numbers, signed, first, second),
+        17 => partial_transform(line, numbers, first),
+        18 => partial_inverse(line, numbers, first),
         _ => reading(line, numbers, first),
     }
 }

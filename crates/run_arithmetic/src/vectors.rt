@@ -64,7 +64,7 @@ fn recover_inverse(set: usize, i: usize, tables: &mut [u32], x: &mut [u32]) {
     }
 }
 
-// How many places a correlation of `n` numbers settles: as many as these n leave.
+// How many places a correlation of `n` numbers settles: as many as these n leave. The test makes sure that one more than the size is a number.
 fn settled(size: usize, n: usize) -> usize
     requires { ⌜ n ≤ size ⌝ }
     ensures { λ r. ⌜ n + r ≤ size + 1 ⌝ }

@@ -7,9 +7,9 @@ mod sponges;
 // Fills a part of a store, a place and so many bytes: with a pattern, with one byte, or with the random bytes of a group and a slice.
 fn fill(line: [usize; 16], bytes: &mut [u8]) {
     let part = report::part_mut(bytes, line[1], line[2]);
-    match line[0] % 3 {
-        1 => report::fill_bytes(part, line[3]),
-        2 => report::repeat(part, &[report::low_byte(line[3])]),
+    match line[0] {
+        1 | 4 => report::fill_bytes(part, line[3]),
+        2 | 5 => report::repeat(part, &[report::low_byte(line[3])]),
         _ => report::random::fill(part, line[3], line[4]),
     }
 }
@@ -27,7 +27,7 @@ fn step(line: [usize; 16], bytes: &mut [u8], out: &mut [u8]) {
     }
 }
 
-// Runs every line, of fewer than a million.
+// Runs every line, of at most a million.
 fn run(bytes: &mut [u8], out: &mut [u8]) {
     let mut left: usize = 1000000;
     while 0 < left {

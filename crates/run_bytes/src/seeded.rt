@@ -1,6 +1,6 @@
 // The draws from a seed, of 32 bytes of the store, and a draw over two blocks of the store. A line of a draw from a seed has, after the numbers of the case
-// and the place of the seed, which of the numbers drawn are printed and above which a number stands for what it is less than the modulus; where none is,
-// the line of the case is printed.
+// and the place of the seed, which of the numbers drawn are printed and above which half a number is printed as a negative one; where none is, the line of
+// the case is printed.
 use libc::STDOUT_FILENO;
 use report::script;
 use samplers::Advance;
@@ -136,7 +136,7 @@ fn seed_at(bytes: &[u8], place: usize) -> [u8; 32] {
     seed
 }
 
-// Prints a space and a number; above the half it stands for what it is less than the modulus.
+// Prints a space and a number; one above `half` is printed as the negative number that it is congruent to modulo q.
 fn print(x: u32, half: u32, q: u32) {
     if half < x {
         if x <= q {
@@ -162,7 +162,7 @@ fn part(line: [usize; 16], out: &[u32]) {
     let p = parameters(line[1]);
     print_all(
         report::numbers(out, line[6], line[7]),
-        script::word(line[8]),
+        script::low_word(line[8]),
         p.q,
     );
 }
@@ -174,7 +174,7 @@ fn residues(line: [usize; 16], seed: [u8; 32]) {
         line[1],
         &seed,
         line[2],
-        script::word(line[3]),
+        script::low_word(line[3]),
         line[4],
         &mut out,
     );
@@ -191,7 +191,7 @@ fn residues(line: [usize; 16], seed: [u8; 32]) {
 // The errors of one key: set and counter.
 fn errors(line: [usize; 16], seed: [u8; 32]) {
     let mut out = [7u32; 10240];
-    errors_into(line[1], &seed, script::word(line[2]), &mut out);
+    errors_into(line[1], &seed, script::low_word(line[2]), &mut out);
     if 0 < line[7] {
         part(line, &out);
         return;

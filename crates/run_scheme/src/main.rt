@@ -41,7 +41,7 @@ fn run_line(line: [usize; 16], store: &mut [u8]) {
     }
 }
 
-// All commands of a script, of fewer than a million.
+// All commands of a script, of at most a million.
 fn run(store: &mut [u8]) {
     let mut left: usize = 1000000;
     while 0 < left {

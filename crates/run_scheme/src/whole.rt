@@ -28,6 +28,7 @@ pub fn seal_and_read(line: [usize; 16], store: &[u8]) {
     report::byte_sum(&public);
     report::byte_sum(&secret);
     report::byte_sum(&sealed);
+    // both kinds of lines have the same fields: this call gives no key of the sender, so the pattern stands there
     let mut sent = [0u8; 33];
     report::fill_bytes(&mut sent, 4);
     report::bytes(&sent);

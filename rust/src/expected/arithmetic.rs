@@ -3,10 +3,11 @@
 use super::damage::Group;
 use super::report::{answer, number_sum, residues};
 use super::script::Script;
-use super::{damage_arithmetic, middle, numbers, transforms};
+use super::{damage_arithmetic, middle, numbers, partial, transforms};
 use crate::arithmetic::{middle_product_call, Lengths};
 use crate::numbers::{key, reading, sealing};
 use crate::parameters::set;
+use crate::partial::{partial_inverse, partial_transform, Split};
 use std::mem::replace;
 
 /// Where the calls find polynomials a, a secret, a key, a message and the two parts of what was sealed.
@@ -48,8 +49,7 @@ impl Arithmetic {
     /// A call: its name, its operands, and what it answers and leaves.
     fn call(&mut self, command: usize, name: &str, operands: &[usize], left: &str) {
         self.script.command(&[&[command], operands].concat());
-        let operands: String = operands.iter().map(|x| format!(" {x}")).collect();
-        self.script.print(&format!("{name}{operands} {left}\n"));
+        self.script.line(name, operands, left);
     }
 
     pub fn residues(&mut self, place: usize, length: usize, start: u64, q: u64) {
@@ -152,6 +152,16 @@ impl Arithmetic {
         let bits = over_sevens(given.unwrap_or_default(), 257);
         self.call(11, "reading", &[number, n, m, o, results], &format!("{answer} {}", number_sum(&bits)));
     }
+
+    /// A partial transform of the numbers of a, or its inverse.
+    pub fn partial(&mut self, is_inverse: bool, number: usize, split: Split, [n, places]: [usize; 2]) {
+        let (command, name) = if is_inverse { (18, "partial_inverse") } else { (17, "partial_transform") };
+        let make = if is_inverse { partial_inverse } else { partial_transform };
+        let given = make(set(number), split, &self.numbers[A..A + n], places);
+        let answer = answer(&given);
+        let out = over_sevens(given.unwrap_or_default(), 4097);
+        self.call(command, name, &[&[number], split.as_slice(), &[n, places]].concat(), &format!("{answer} {}", number_sum(&out)));
+    }
 }
 
 pub fn script() -> Script {
@@ -159,6 +169,7 @@ pub fn script() -> Script {
     numbers::run(&mut run);
     middle::run(&mut run);
     transforms::run(&mut run);
+    partial::run(&mut run);
     damage_arithmetic::run(&mut run);
     run.script
 }

@@ -37,12 +37,6 @@ impl Bytes {
         Bytes { script: Script::default(), bytes: vec![0; LIMIT + 1], out: vec![0; LIMIT + 1] }
     }
 
-    /// A call: its name, its operands, and what it answers and leaves.
-    fn print(&mut self, name: &str, operands: &[usize], left: &str) {
-        let operands: String = operands.iter().map(|x| format!(" {x}")).collect();
-        self.script.print(&format!("{name}{operands} {left}\n"));
-    }
-
     pub fn pattern(&mut self, place: usize, length: usize, start: usize) {
         self.script.command(&[1, place, length, start]);
         self.bytes[place..place + length].copy_from_slice(&pattern(length, start));
@@ -88,7 +82,7 @@ impl Bytes {
             shake256(&self.bytes[..input], &mut self.out[..output]);
         }
         self.script.command(&[6, input, output]);
-        self.print("shake256", &[input, output], &format!("{} {}", answer(&checked), byte_sum(&self.out)));
+        self.script.line("shake256", &[input, output], &format!("{} {}", answer(&checked), byte_sum(&self.out)));
     }
 
     /// A published sample of SHAKE256.
@@ -101,7 +95,8 @@ impl Bytes {
     /// KMAC256 or KMACXOF256 of slices that begin at these places.
     fn write_kmac(&mut self, is_fixed: bool, places: [usize; 3], [key, input, customization, output]: [usize; 4]) {
         let function = if is_fixed { kmac256 } else { kmacxof256 };
-        let [key, input, customization] = [(places[0], key), (places[1], input), (places[2], customization)].map(|(place, length)| &self.bytes[place..place + length]);
+        let part = |i: usize, length: usize| &self.bytes[places[i]..places[i] + length];
+        let [key, input, customization] = [part(0, key), part(1, input), part(2, customization)];
         function(key, input, customization, &mut self.out[..output]);
     }
 
@@ -112,7 +107,7 @@ impl Bytes {
         }
         let (command, name) = if is_fixed { (7, "kmac256") } else { (8, "kmacxof256") };
         self.script.command(&[[command].as_slice(), &lengths].concat());
-        self.print(name, &lengths, &format!("{} {}", answer(&checked), byte_sum(&self.out)));
+        self.script.line(name, &lengths, &format!("{} {}", answer(&checked), byte_sum(&self.out)));
     }
 
     /// A published sample of KMAC256 or KMACXOF256.
@@ -128,19 +123,19 @@ impl Bytes {
         let (mut out, drawn) = ([7; 4097], residues(set(number), &self.bytes[..lent], wanted));
         put(&mut out, &drawn);
         self.script.command(&[9, number, lent, wanted, first, count]);
-        self.print("residues", &[number, lent, wanted, first, count], &format!("{} {}", answer(&drawn), number_sum(&out)));
+        self.script.line("residues", &[number, lent, wanted, first, count], &format!("{} {}", answer(&drawn), number_sum(&out)));
     }
 
     fn print_errors(&mut self, out: &mut [i32], [number, lent, wanted]: [usize; 3]) {
         let drawn = errors(set(number), &self.bytes[..lent], wanted);
         put(out, &drawn);
-        self.print("errors", &[number, lent, wanted], &format!("{} {}", answer(&drawn), signed_sum(out)));
+        self.script.line("errors", &[number, lent, wanted], &format!("{} {}", answer(&drawn), signed_sum(out)));
     }
 
     fn print_multipliers(&mut self, out: &mut [i32], [number, lent, first, wanted]: [usize; 4]) {
         let drawn = multipliers(set(number), &self.bytes[..lent], first, wanted);
         put(out, &drawn);
-        self.print("multipliers", &[number, lent, first, wanted], &format!("{} {}", answer(&drawn), signed_sum(out)));
+        self.script.line("multipliers", &[number, lent, first, wanted], &format!("{} {}", answer(&drawn), signed_sum(out)));
     }
 
     pub fn errors(&mut self, case: [usize; 3]) {

@@ -3,6 +3,7 @@
 use super::arithmetic::{Arithmetic, Put, A, B, C1, C2, E, MESSAGE, R, S};
 use super::damage::{Group, ROUNDS};
 use super::numbers::Row;
+use super::partial;
 use super::report::changed;
 use crate::parameters::set;
 
@@ -68,10 +69,24 @@ fn reading(run: &mut Arithmetic, group: &Group, row: &Row) {
     row.reading(run, group.change(8, 4));
 }
 
+/// Both partial transforms of a size of a set: now and then m is 0 or one more than D1, and D2 one more than fits.
+fn partial_transforms(run: &mut Arithmetic, group: &Group) {
+    let number = group.set(0);
+    let s = set(number).or(set(1)).unwrap();
+    let size = s.sizes[group.below(1, 3)];
+    let splits: Vec<usize> = (1..=size).filter(|d1| size % d1 == 0).collect();
+    let d1 = splits[group.below(2, splits.len())];
+    let m = group.below(3, d1 + 2);
+    let d2 = size / d1 + group.one_in(4, 8) as usize;
+    residues(run, group, A, [3500, 400], 1, s.q);
+    partial::both(run, number, [d1, d2, m], changed([size, size], group.change(5, 2)));
+}
+
 pub fn run(run: &mut Arithmetic) {
     for i in 0..ROUNDS {
         run.script.text(&format!("round {i}\n"));
         middle_products(run, &Group(8 * i + 2));
+        partial_transforms(run, &Group(8 * i + 7));
         let group = Group(8 * i + 3);
         let row = Row::new(group.set(0));
         key(run, &group, &row);

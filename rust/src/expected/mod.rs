@@ -12,6 +12,7 @@ pub mod known;
 pub mod known_draws;
 pub mod middle;
 pub mod numbers;
+pub mod partial;
 pub mod report;
 pub mod samplers;
 pub mod script;

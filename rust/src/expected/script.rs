@@ -21,6 +21,12 @@ impl Script {
         self.text += text;
     }
 
+    /// The line of a call: its name, its operands, and what it answers and leaves.
+    pub fn line(&mut self, name: &str, operands: &[usize], left: &str) {
+        let operands: String = operands.iter().map(|x| format!(" {x}")).collect();
+        self.print(&format!("{name}{operands} {left}\n"));
+    }
+
     /// A text that is printed as it is.
     pub fn text(&mut self, text: &str) {
         for bytes in text.as_bytes().chunks(15) {

@@ -9,7 +9,8 @@ mod raw;
 pub enum Refused {
     /// 1: no such set.
     NoSuchSet,
-    /// 2: a slice has not the set's length; in the encryption scheme and the key exchange that of a seed, a message, a key or a shared key.
+    /// 2: a slice has not the set's length; in the encryption scheme and the key exchange that of a seed, a message, a key or a shared key; in the
+    /// partial transform and its inverse a slice has not d1 · d2 numbers.
     WrongLength { place: u32 },
     /// 3: a number out of range.
     OutOfRange { place: u32 },
@@ -27,6 +28,10 @@ pub enum Refused {
     CiphertextLength,
     /// 10: the work slice has not the set's length.
     WorkLength,
+    /// 11: the rows that a partial transform reads, or its inverse writes, are none or more than there are.
+    RowCount,
+    /// 12: d1 · d2 is no transform size of the set.
+    TransformSize,
     /// A number that this version does not know.
     Unknown { number: u8, place: u32 },
 }
@@ -45,6 +50,8 @@ impl Refused {
             Refused::OtherScheme => 8,
             Refused::CiphertextLength => 9,
             Refused::WorkLength => 10,
+            Refused::RowCount => 11,
+            Refused::TransformSize => 12,
             Refused::Unknown { number, .. } => number,
         }
     }
@@ -82,6 +89,8 @@ fn answer(code: u64) -> Result<(), Refused> {
         8 => Err(Refused::OtherScheme),
         9 => Err(Refused::CiphertextLength),
         10 => Err(Refused::WorkLength),
+        11 => Err(Refused::RowCount),
+        12 => Err(Refused::TransformSize),
         number => Err(Refused::Unknown { number: number as u8, place }),
     }
 }
@@ -365,6 +374,17 @@ pub fn transformed_middle_product(set: usize, a: &[u32], b: &[u32], out: &mut [u
     })
 }
 
+/// The transform of the first `m` of `d1` rows of `d2` numbers, zeros counting for the others, with the set's root of the size d1 · d2: place d2 · r + c of
+/// `output` has the value r + d1 · c. Refused with 1, 11 (`m` is 0 or above `d1`), 12 (d1 · d2 is no transform size of the set), 2, 3, in this order.
+pub fn partial_transform(set: usize, d1: usize, d2: usize, m: usize, input: &[u32], output: &mut [u32]) -> Result<(), Refused> {
+    answer(unsafe { raw::titanium_partial_transform(set, d1, d2, m, input.as_ptr(), input.len(), output.as_mut_ptr(), output.len()) })
+}
+
+/// The first `m` rows of what `input`, in the order of `partial_transform`, was made from; the rest of `output` keeps its numbers. Refused as that is.
+pub fn partial_inverse(set: usize, d1: usize, d2: usize, m: usize, input: &[u32], output: &mut [u32]) -> Result<(), Refused> {
+    answer(unsafe { raw::titanium_partial_inverse(set, d1, d2, m, input.as_ptr(), input.len(), output.as_mut_ptr(), output.len()) })
+}
+
 /// Key on numbers.
 pub fn key_of_numbers(set: usize, a: &[u32], s: &[u32], e: &[i32], b: &mut [u32]) -> Result<(), Refused> {
     answer(unsafe {
@@ -446,7 +466,9 @@ mod tests {
         assert_eq!(answer(0), Ok(()));
         assert_eq!(answer(9), Err(Refused::CiphertextLength));
         assert_eq!(answer(10), Err(Refused::WorkLength));
-        assert_eq!(answer(11 + 256 * 5), Err(Refused::Unknown { number: 11, place: 5 }));
+        assert_eq!(answer(11), Err(Refused::RowCount));
+        assert_eq!(answer(12), Err(Refused::TransformSize));
+        assert_eq!(answer(13 + 256 * 5), Err(Refused::Unknown { number: 13, place: 5 }));
         for number in 1..=255 {
             assert_eq!(answer(number).unwrap_err().number() as u64, number);
         }

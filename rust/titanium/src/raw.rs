@@ -164,6 +164,26 @@ extern "C" {
         work: *mut u32,
         work_length: usize,
     ) -> u64;
+    pub fn titanium_partial_transform(
+        set: usize,
+        d1: usize,
+        d2: usize,
+        m: usize,
+        input: *const u32,
+        input_length: usize,
+        output: *mut u32,
+        output_length: usize,
+    ) -> u64;
+    pub fn titanium_partial_inverse(
+        set: usize,
+        d1: usize,
+        d2: usize,
+        m: usize,
+        input: *const u32,
+        input_length: usize,
+        output: *mut u32,
+        output_length: usize,
+    ) -> u64;
     pub fn titanium_key_of_numbers(
         set: usize,
         a: *const u32,

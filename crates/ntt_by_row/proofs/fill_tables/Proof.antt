@@ -1,7 +1,5 @@
 -- `ntt_by_row::fill_tables` meets its contract: for rows of one number, the powers are the tables.
 -- Assumes nothing.
-use native.Mathlib.Nat.{mul-one}
-use native.Mathlib.Omega.{arith}
 use Rattle.ntt_by_row.proofs.Lent.{wide-ready, wide-lent, wide-tables, plain-lent, plain-tables}
 use borrow.Author.Needs.{needs}
 use Rattle.ntt_by_row.proofs.fill_tables.Statement.{statement}

@@ -6,6 +6,7 @@ use native.Mathlib.Nat.{mul-one}
 use native.Mathlib.Omega.{arith}
 use lib.ListN.{length, take}
 use lib.Seq.{length-take-le}
+use Rattle.calls.proofs.Parts.{array-front}
 use Rattle.ntt_by_row.proofs.Lent.{copied}
 use borrow.Author.Needs.{needs}
 use Rattle.ntt_by_row.proofs.forward_numbers.Statement.{statement}
@@ -21,16 +22,23 @@ buffer-front c =
     let size : length (take (start .args .n) (start .args .x .now)) ≡ start .args .n = length-take-le (start .args .n) (start .args .x .now) (start .pre .3) in
     rw whole (copied _ _ (start .args .n) (rw whole at (c .copy-in .ensures)) size (omega (arith, start .pre)))
 
-forward-requires : tie.Need-forward-requires
-forward-requires c κs =
-    let start = c .before .before .before .before .before .before .before .before .before .before in
+forward-with-buffer-requires : tie.Need-forward-with-buffer-requires
+forward-with-buffer-requires c κs =
+    let start = c .before .before .before .before .before .before .before .before .before .before .before in
     let size = length-take-le (start .args .n) (start .args .x .now) (start .pre .3) in
-    rw (buffer-front (c .before .before .before .before))
-    (start .pre .0, size ∙ sym (mul-one _), omega (arith, start .pre .1, start .pre .3), sym (mul-one _), start .pre .1)
+    rw (buffer-front (c .before .before .before .before .before)) (
+      start .pre .0,
+      size ∙ sym (mul-one _),
+      omega (arith, start .pre .1, start .pre .3),
+      sym (mul-one _),
+      start .pre .1,
+      array-front 16 (length (start .args .powers .now)) (start .pre .2),
+    )
 
 returns : tie.Need-returns
 returns c w table whole =
-    c .before .before .forward .ensures w table whole ∙ rw (buffer-front (c .before .before .before .before .before .before .before))
+    c .before .before .before .forward-with-buffer .ensures w table whole
+    ∙ rw (buffer-front (c .before .before .before .before .before .before .before .before .before))
 
 pub forward-numbers-spec : {M : Type 1} → statement M
 forward-numbers-spec =
@@ -44,6 +52,9 @@ forward-numbers-spec =
     (λ c. search needs)
     (λ c. search needs)
     (λ c. search needs)
-    forward-requires
+    (λ c. search needs)
+    (λ c. search needs)
+    (λ c. search needs)
+    forward-with-buffer-requires
     (λ c. search needs)
     returns)

@@ -1,11 +1,11 @@
 -- `ntt_by_row::inverse_numbers` meets its contract: the transform of the numbers that were copied, scaled.
 -- Assumes nothing.
-use mathlib.Core.Path.{_≡_, refl, sym, ap, _∙_}
-use Prim.Native.Nat.{ℕ, _*_, _-_}
-use native.Mathlib.Nat.{mul-one, le-refl, le-of-eq}
+use mathlib.Core.Path.{_≡_, refl, sym, _∙_}
+use Prim.Native.Nat.{_-_}
+use native.Mathlib.Nat.{mul-one, le-refl}
 use native.Mathlib.Omega.{arith}
 use lib.ListN.{length, take}
-use Rattle.maths.specs.Transform.{recover}
+use Rattle.calls.proofs.Parts.{array-front}
 use Rattle.ntt_by_row.proofs.Lent.{copied}
 use borrow.Author.Needs.{needs}
 use Rattle.ntt_by_row.proofs.inverse_numbers.Statement.{statement}
@@ -19,17 +19,25 @@ buffer-front c =
     let whole : length (start .args .x .now) - 0 ≡ length (start .args .x .now) = omega arith in
     rw whole (copied _ _ (length (start .args .x .now)) (c .copy-in .ensures) refl (omega (arith, start .pre)))
 
-inverse-requires : tie.Need-inverse-requires
-inverse-requires c κs =
-    let start = c .before .before .before .before .before .before .before .before .before in
-    rw (buffer-front (c .before .before .before .before)) (start .pre .0, sym (mul-one _), sym (start .pre .1), start .pre .3, le-refl _)
+inverse-with-buffer-requires : tie.Need-inverse-with-buffer-requires
+inverse-with-buffer-requires c κs =
+    let start = c .before .before .before .before .before .before .before .before .before .before in
+    rw (buffer-front (c .before .before .before .before .before)) (
+      start .pre .0,
+      sym (mul-one _),
+      sym (start .pre .1),
+      start .pre .3,
+      le-refl _,
+      array-front 16 (length (start .args .x .now)) (omega (arith, start .pre .1, start .pre .2)),
+    )
 
 returns : tie.Need-returns
 returns c w table whole =
-    let start = c .before .before .before .before .before .before .before .before .before .before .before .before in
+    let filled = c .before .before .before .before .before .before .before .before .before in
+    let start = filled .before .before .before .before .before in
     let n = length (start .args .x .now) in
-    c .before .before .inverse .ensures w n table whole (sym (mul-one n)) (le-refl n)
-    ∙ rw (buffer-front (c .before .before .before .before .before .before .before), mul-one n, start .pre .1)
+    c .before .before .before .inverse-with-buffer .ensures w n table whole (sym (mul-one n)) (le-refl n)
+    ∙ rw (buffer-front filled, mul-one n, start .pre .1)
 
 pub inverse-numbers-spec : {M : Type 1} → statement M
 inverse-numbers-spec =
@@ -40,6 +48,9 @@ inverse-numbers-spec =
     (λ c. search needs)
     (λ c. search needs)
     (λ c. search needs)
-    inverse-requires
+    (λ c. search needs)
+    (λ c. search needs)
+    (λ c. search needs)
+    inverse-with-buffer-requires
     (λ c. search needs)
     returns)

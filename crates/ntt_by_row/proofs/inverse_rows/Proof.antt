@@ -1,11 +1,8 @@
 -- `ntt_by_row::inverse_rows` meets its contract: the rows that hold the first m numbers are recovered.
 -- Assumes nothing.
-use mathlib.Core.Path.{_≡_, sym, ap, _∙_}
-use Prim.Native.Nat.{_*_, _^_, _<_}
+use Prim.Native.Nat.{_*_}
 use native.Mathlib.Nat.{mod-lt}
 use native.Mathlib.Omega.{arith}
-use lib.ListN.{take}
-use Rattle.maths.specs.Vector.{AllBelow}
 use Rattle.ntt_by_row.proofs.Lent.{doubled, scale-of, recover-front}
 use borrow.Author.Needs.{needs}
 use Rattle.ntt_by_row.proofs.inverse_rows.Statement.{statement}

@@ -1,11 +1,10 @@
 -- `ntt_plain::fill_columns` meets its contract: after i turns the first i values are written.
 -- Assumes nothing.
 use mathlib.Core.Path.{refl, sym, ap, _∙_}
-use Prim.Native.Nat.{ℕ, _*_, _/_, _%_, _-_, _<_}
+use Prim.Native.Nat.{ℕ, _%_, _-_, _<_}
 use native.Mathlib.Nat.{zero-add}
 use native.Mathlib.Omega.{arith}
 use lib.ListN.{length}
-use Rattle.maths.specs.Vector.{at}
 use Rattle.calls.proofs.Filled.{Filled, filled-none, filled-more, filled-whole}
 use Rattle.ntt_plain.specs.Plain.{columns}
 use Rattle.ntt_plain.proofs.Steps.{row-start, columns-length, columns-at, column-summable}
@@ -46,7 +45,8 @@ loop-again c =
     let below : turn .i < length (start .args .to .now) = omega (arith, turn .inv .kept-length, c .before .before .loop-test .taken) in
     filled-more 0 (turn .inv) below (sym (zero-add (turn .i)))
     (c .reduce .ensures ∙ ap (λ (y : ℕ). y % start .args .q) (c .before .strided-sum .ensures)
-    ∙ sym (columns-at (start .args .q) (start .args .row) (start .args .m) (length (start .args .to .now)) (start .args .powers .now) (start .args .x .now) (turn .i) below))
+    ∙ sym (columns-at (start .args .q) (start .args .row) (start .args .m) (length (start .args .to .now)) (start .args .powers .now) (start .args .x .now)
+    (turn .i) below))
 
 returns : tie.Need-returns Inv-loop μ-loop
 returns c = filled-whole (c .before .loop .inv) refl (omega (arith, c .loop-test .left, c .before .loop .inv .kept-length))

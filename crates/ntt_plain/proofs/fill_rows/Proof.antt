@@ -1,11 +1,10 @@
 -- `ntt_plain::fill_rows` meets its contract: after i turns the first i values are written.
 -- Assumes nothing.
 use mathlib.Core.Path.{refl, sym, ap, _∙_}
-use Prim.Native.Nat.{ℕ, _*_, _/_, _%_, _-_, _<_}
+use Prim.Native.Nat.{ℕ, _%_, _-_, _<_}
 use native.Mathlib.Nat.{zero-add}
 use native.Mathlib.Omega.{arith}
 use lib.ListN.{length}
-use Rattle.maths.specs.Vector.{at}
 use Rattle.calls.proofs.Filled.{Filled, filled-none, filled-more, filled-whole}
 use Rattle.ntt_plain.specs.Plain.{rows}
 use Rattle.ntt_plain.proofs.Steps.{row-start, rows-length, rows-at, row-summable}
@@ -34,7 +33,8 @@ mul-strided-sum c = let turn = c .before .loop in omega (arith, row-start (c .be
 mul-strided-sum-2 : tie.Need-mul-strided-sum-2 Inv-loop μ-loop
 mul-strided-sum-2 c =
     let pre = c .before .before .before .before .before .pre in
-    let below : c .before .loop .i < length (c .before .before .before .before .before .args .x .now) = omega (arith, c .before .loop .inv .kept-length, c .loop-test .taken, pre .3) in
+    let below : c .before .loop .i < length (c .before .before .before .before .before .args .x .now) =
+    omega (arith, c .before .loop .inv .kept-length, c .loop-test .taken, pre .3) in
     omega (arith, row-summable (pre .0) _ (c .before .loop .i) (pre .1) (pre .2) below .some-powers, pre .0 .few)
 
 strided-sum-requires : tie.Need-strided-sum-requires Inv-loop μ-loop
@@ -52,7 +52,8 @@ loop-again c =
     let below : turn .i < length (start .args .to .now) = omega (arith, turn .inv .kept-length, c .before .before .loop-test .taken) in
     filled-more 0 (turn .inv) below (sym (zero-add (turn .i)))
     (c .reduce .ensures ∙ ap (λ (y : ℕ). y % start .args .q) (c .before .strided-sum .ensures)
-    ∙ sym (rows-at (start .args .q) (start .args .row) (start .args .count) (start .args .powers .now) (start .args .x .now) (turn .i) (omega (arith, start .pre .3))))
+    ∙ sym (rows-at (start .args .q) (start .args .row) (start .args .count) (start .args .powers .now) (start .args .x .now)
+    (turn .i) (omega (arith, start .pre .3))))
 
 returns : tie.Need-returns Inv-loop μ-loop
 returns c = filled-whole (c .before .loop .inv) refl (omega (arith, c .loop-test .left, c .before .loop .inv .kept-length))

@@ -1,11 +1,10 @@
 -- `ntt_plain::scale` meets its contract: after i turns the first i numbers are multiplied, and the others are as they were.
 -- Assumes nothing.
 use mathlib.Core.Path.{refl, sym, ap, _∙_}
-use Prim.Native.Nat.{ℕ, _*_, _/_, _%_, _-_, _<_}
+use Prim.Native.Nat.{ℕ, _*_, _%_, _-_, _<_}
 use native.Mathlib.Nat.{zero-add}
 use native.Mathlib.Omega.{arith}
 use lib.ListN.{length}
-use Rattle.maths.specs.Vector.{at}
 use Rattle.calls.proofs.Filled.{Filled, filled-none, filled-more, filled-whole, ahead}
 use Rattle.ntt_plain.specs.Plain.{scaled}
 use Rattle.ntt_plain.proofs.Steps.{scaled-length, scaled-at}

@@ -1,7 +1,6 @@
 -- `ntt_steps::exchange` meets its contract: after a turns the first a rows are written.
 -- Assumes nothing.
 use Prim.Native.Nat.{_-_}
-use native.Mathlib.Omega.{arith}
 use Rattle.ntt_steps.proofs.Exchanges.{RowsExchanged, exchanged-none, exchanged-more, exchanged-all}
 use borrow.Author.Needs.{needs}
 use Rattle.ntt_steps.proofs.exchange.Statement.{statement}
