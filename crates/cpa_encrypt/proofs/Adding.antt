@@ -21,8 +21,9 @@ use Rattle.samplers.specs.Blocks.{uniform, onto, refusal, uniformAnswer}
 use Rattle.byte_source.specs.Source.{State, stateAt}
 use Rattle.samplers.specs.Seeded.{publicState, publicDrawn}
 use Rattle.samplers.proofs.Laws.{uniform-length, uniform-below, answer-onto, answer-refusal, publicState-small}
-use Rattle.ntt_products.specs.Stored.{sent, accumulated, totals}
-use Rattle.ntt_products.specs.Placed.{Placed}
+use Rattle.montgomery.specs.Scaled.{Modulus}
+use Rattle.ntt_products.specs.Stored.{sent, unscaled, accumulated, totals}
+use Rattle.ntt_products.specs.Placed.{Placed, SentScaled}
 use Rattle.ntt_products.proofs.Laws.{accumulated-length, Stored, sent-placed, addends, totals-none, totals-more, totals-placed, totals-sent, front-placed}
 use Rattle.scheme.specs.Answers.{isTaken, allTaken}
 use Rattle.scheme.specs.Encryption.{publicPolynomial, firstNumbers, firstBytes}
@@ -170,34 +171,33 @@ module _ (set : ℕ) (low : IsSet set) (seed ms : List ℕ) where
 
   -- one polynomial more
   pub adding-more : {size : ℕ} {total x₀ y₀ : List ℕ} {counter i : ℕ} (new x y : List ℕ) (next : ℕ) → Adding set seed ms size total x₀ y₀ counter i
-      → i < setOf set .t → PolynomialSent set seed i (stateAt seed next) y → x ≡ sent (setOf set) 2 (vector (setOf set .k + 1) ms i)
-      → new ≡ accumulated (setOf set .q) total x y → Adding set seed ms size new x y next (i + 1)
-  adding-more {total = total} {i = i} new x y next a h s x-is made =
+      → i < setOf set .t → PolynomialSent set seed i (stateAt seed next) y → SentScaled (setOf set) 2 (vector (setOf set .k + 1) ms i) x
+      → new ≡ accumulated (setOf set .q) total (unscaled (setOf set .q) x) y → Adding set seed ms size new x y next (i + 1)
+  adding-more {total = total} {i = i} new x y next a h s scaled made =
       record {
-        total-size = ap length made ∙ accumulated-length (setOf set .q) total x y ∙ a .total-size;
+        total-size = ap length made ∙ accumulated-length (setOf set .q) total _ y ∙ a .total-size;
         within = omega arith;
         drawn = allTaken-more i (publicDrawn (setOf set) seed) (a .drawn) (s .is-taken);
         reached = s .reached;
         sum =
-            made ∙ rw (a .sum, x-is, s .y-is)
+            made ∙ rw (a .sum, scaled .unscaled-is, s .y-is)
             (totals-more (setOf set .q) (transformSize (setOf set) 2) (λ j. sent (setOf set) 2 (vector (setOf set .k + 1) ms j))
             (λ j. sent (setOf set) 2 (publicPolynomial (setOf set) seed j)) i);
-        x-size = rw x-is (sent-placed set low 2 _ .size);
+        x-size = scaled .placed .size;
         y-size = rw (s .y-is) (sent-placed set low 2 _ .size);
       }
 
   -- the total and the vectors of one turn may be accumulated
-  pub adding-addends : {size : ℕ} {total x₀ y₀ x y : List ℕ} {counter i : ℕ} (p : Parameters) → p ≡ setOf set → Adding set seed ms size total x₀ y₀ counter i
-      → x ≡ sent (setOf set) 2 (vector (setOf set .k + 1) ms i) → y ≡ sent (setOf set) 2 (publicPolynomial (setOf set) seed i)
-      → (length x ≡ length total) × (length y ≡ length total) × AllBelow (p .q) (length total) total × AllBelow (p .q) (length total) x
-      × AllBelow (p .q) (length total) y × (p .q < 2 ^ 24)
-  adding-addends {total = total} {x = x} {y = y} {i = i} p e a x-is y-is =
+  pub adding-addends : {size k : ℕ} {total x₀ y₀ x y : List ℕ} {counter i : ℕ} (p : Parameters) → p ≡ setOf set → Modulus (p .q) k
+      → Adding set seed ms size total x₀ y₀ counter i → SentScaled (setOf set) 2 (vector (setOf set .k + 1) ms i) x
+      → y ≡ sent (setOf set) 2 (publicPolynomial (setOf set) seed i)
+      → Modulus (p .q) k × (length x ≡ length total) × (length y ≡ length total) × AllBelow (p .q) (length total) total × AllBelow (p .q) (length total) x
+  adding-addends {total = total} {y = y} {i = i} p e modulus a scaled y-is =
       let stored : Stored set 2 total =
       rw (a .sum) (totals-placed set low 2 i (λ j. sent (setOf set) 2 (vector (setOf set .k + 1) ms j))
       (λ j. sent (setOf set) 2 (publicPolynomial (setOf set) seed j))) in
-      let one : Stored set 2 x = rw x-is (sent-placed set low 2 (vector (setOf set .k + 1) ms i)) in
       let other : Stored set 2 y = rw y-is (sent-placed set low 2 (publicPolynomial (setOf set) seed i)) in
-      rw e (addends set low 2 stored one other)
+      rw e (addends set low 2 (rw e at modulus) stored (scaled .placed) other)
 
   -- after the last polynomial
   pub adding-all : {size : ℕ} {total x y : List ℕ} {counter i : ℕ} → Adding set seed ms size total x y counter i → setOf set .t ≤ i

@@ -2,7 +2,7 @@
 -- Assumes nothing.
 use mathlib.Core.Path.{_≡_, refl, sym, ap, _∙_}
 use mathlib.Core.List.{List, _++_}
-use Prim.Native.Nat.{ℕ, zero, suc, _+_, _-_, _*_, _%_, _^_, _≤_, _<_}
+use Prim.Native.Nat.{ℕ, zero, suc, _+_, _-_, _*_, _%_, _≤_, _<_}
 use native.Mathlib.Nat.{sub-zero, mod-lt}
 use native.Mathlib.Omega.{arith}
 use lib.ListN.{length, take, drop, replicate}
@@ -23,8 +23,10 @@ use Rattle.sets.proofs.Rules.{rules}
 use Rattle.packing.specs.Digits.{Digit}
 use Rattle.packing.specs.Dropped.{packDropping}
 use Rattle.packing.specs.Message.{messageBits}
-use Rattle.ntt_products.specs.Stored.{sent, recoveredInverse, accumulated, totals, summedCorrelations}
-use Rattle.ntt_products.proofs.Laws.{accumulated-length, Stored, sent-placed, recoveredInverse-below, addends, totals-none, totals-more, totals-placed}
+use Rattle.montgomery.specs.Scaled.{Modulus}
+use Rattle.ntt_products.specs.Stored.{sent, unscaled, recoveredInverse, accumulated, totals, summedCorrelations}
+use Rattle.ntt_products.specs.Placed.{SentScaled}
+use Rattle.ntt_products.proofs.Laws.{accumulated-length, Stored, recoveredInverse-below, addends, totals-none, totals-more, totals-placed}
 use Rattle.ntt_products.proofs.Laws.{totals-recoveredInverse, recoveredInverse-take}
 use Rattle.scheme.specs.Encryption.{secondNumbers, secondBytes}
 use Rattle.cpa_encrypt.specs.Parts.{Multipliers, KeyResidues, messageAdded, secondSums, packedSecond}
@@ -126,32 +128,30 @@ module _ (set : ℕ) (low : IsSet set) where
 
     -- one polynomial more
     pub correlating-more : {size : ℕ} {total x₀ : List ℕ} {i : ℕ} (p : Parameters) → p ≡ setOf set → (new x y : List ℕ)
-        → Correlating set numbers ms size total x₀ i → i < setOf set .t → x ≡ sent (setOf set) 1 (vector (setOf set .k + 1) ms i)
-        → y ≡ vector (setOf set .d1) numbers i → new ≡ accumulated (p .q) total x y → Correlating set numbers ms size new x (i + 1)
-    correlating-more {total = total} {i = i} p e new x y a h x-is y-is made =
+        → Correlating set numbers ms size total x₀ i → i < setOf set .t → SentScaled (setOf set) 1 (vector (setOf set .k + 1) ms i) x
+        → y ≡ vector (setOf set .d1) numbers i → new ≡ accumulated (p .q) total (unscaled (p .q) x) y → Correlating set numbers ms size new x (i + 1)
+    correlating-more {total = total} {i = i} p e new x y a h scaled y-is made =
         record {
-          total-size = ap length made ∙ accumulated-length (p .q) total x y ∙ a .total-size;
+          total-size = ap length made ∙ accumulated-length (p .q) total _ y ∙ a .total-size;
           within = omega arith;
           sum =
-              made ∙ ap (λ (r : Parameters). accumulated (r .q) total x y) e
-              ∙ rw (a .sum, x-is, y-is)
+              made ∙ ap (λ (r : Parameters). accumulated (r .q) total (unscaled (r .q) x) y) e
+              ∙ rw (a .sum, scaled .unscaled-is, y-is)
               (totals-more (setOf set .q) (transformSize (setOf set) 1) (λ j. sent (setOf set) 1 (vector (setOf set .k + 1) ms j))
               (λ j. vector (setOf set .d1) numbers j) i);
-          x-size = rw x-is (sent-placed set low 1 _ .size);
+          x-size = scaled .placed .size;
         }
 
     -- the total and the vectors of one turn may be accumulated
-    pub correlating-addends : {size : ℕ} {total x₀ x y : List ℕ} {i : ℕ} (p : Parameters) → p ≡ setOf set → KeyResidues (setOf set) numbers
-        → Correlating set numbers ms size total x₀ i → i < setOf set .t → x ≡ sent (setOf set) 1 (vector (setOf set .k + 1) ms i)
-        → y ≡ vector (setOf set .d1) numbers i
-        → (length x ≡ length total) × (length y ≡ length total) × AllBelow (p .q) (length total) total × AllBelow (p .q) (length total) x
-        × AllBelow (p .q) (length total) y × (p .q < 2 ^ 24)
-    correlating-addends {total = total} {x = x} {y = y} {i = i} p e b a h x-is y-is =
+    pub correlating-addends : {size k : ℕ} {total x₀ x y : List ℕ} {i : ℕ} (p : Parameters) → p ≡ setOf set → Modulus (p .q) k
+        → KeyResidues (setOf set) numbers → Correlating set numbers ms size total x₀ i → i < setOf set .t
+        → SentScaled (setOf set) 1 (vector (setOf set .k + 1) ms i) x → y ≡ vector (setOf set .d1) numbers i
+        → Modulus (p .q) k × (length x ≡ length total) × (length y ≡ length total) × AllBelow (p .q) (length total) total × AllBelow (p .q) (length total) x
+    correlating-addends {total = total} {y = y} {i = i} p e modulus b a h scaled y-is =
         let stored : Stored set 1 total =
         rw (a .sum) (totals-placed set low 1 i (λ j. sent (setOf set) 1 (vector (setOf set .k + 1) ms j)) (λ j. vector (setOf set .d1) numbers j)) in
-        let one : Stored set 1 x = rw x-is (sent-placed set low 1 (vector (setOf set .k + 1) ms i)) in
         let other : Stored set 1 y = rw y-is (key-stored b i h) in
-        rw e (addends set low 1 stored one other)
+        rw e (addends set low 1 (rw e at modulus) stored (scaled .placed) other)
 
     -- the total over all polynomials may be recovered
     pub total-stored : (total : List ℕ)

@@ -62,6 +62,7 @@ fn sum_products(
         (λ i. sent (setOf set) 2 (publicPolynomial (setOf set) (now (seed .entry)) i))) ⌝ }
 {
     let p = sets::parameters_of(set);
+    let k = montgomery::negated_inverse(p.q);
     let mut counter: u32 = 0;
     let mut i: usize = 0;
     while i < p.t {
@@ -70,7 +71,7 @@ fn sum_products(
         let Advance::Counter(next) = drawn else {
             return Answer::Refused(samplers::refusal_of(drawn), 0);
         };
-        ntt_products::accumulate(total, x, y, p.q);
+        ntt_products::accumulate(total, x, y, p.q, k);
         counter = next;
         i += 1;
     }

@@ -29,12 +29,13 @@ fn sum_stored(
         (λ i. vector (setOf set .d1) (now (numbers .entry)) i) ⌝ }
 {
     let p = sets::parameters_of(set);
+    let k = montgomery::negated_inverse(p.q);
     let mut i: usize = 0;
     while i < p.t {
         crate::vectors::send_multipliers(set, 1, tables, multipliers, i, x);
         let from = p.d1 * i;
         let end = from + p.d1;
-        ntt_products::accumulate(total, x, &numbers[from..end], p.q);
+        ntt_products::accumulate(total, x, &numbers[from..end], p.q, k);
         i += 1;
     }
 }

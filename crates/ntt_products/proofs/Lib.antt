@@ -6,5 +6,6 @@ pub mod Correlations
 pub mod Recovered
 pub mod Sums
 pub mod Front
+pub mod SentScaled
 pub mod Room
 pub mod Laws

@@ -3,7 +3,7 @@
 use mathlib.Core.Path.{_≡_, refl}
 use mathlib.Core.Logic.{_⊎_, inl, inr}
 use mathlib.Core.List.{List, _++_}
-use Prim.Native.Nat.{ℕ, zero, suc, _-_, _*_, _/_, _^_, _≤_, _<_}
+use Prim.Native.Nat.{ℕ, zero, suc, _-_, _*_, _/_, _≤_, _<_}
 use native.Mathlib.Nat.{mod-lt, zero-add}
 use native.Mathlib.Omega.{arith}
 use lib.ListN.{length, drop, length-append, length-drop}
@@ -94,9 +94,6 @@ module _ (set : ℕ) (low : IsSet set) (i : ℕ) where
   -- the modulus
   pub some-modulus : 1 < setOf set .q
   some-modulus = rules set low .prime .above
-
-  pub small-modulus : setOf set .q < 2 ^ 24
-  small-modulus = rules set low .small
 
   -- the root has the order of all rows together
   pub rows-root : Root (setOf set .q) (rowCount (setOf set) i * setOf set .row) (transformRoot (setOf set) i) (rootInverse (setOf set) i)

@@ -2,19 +2,20 @@
 -- Assumes nothing.
 use mathlib.Core.Path.{_≡_, sym, _∙_}
 use mathlib.Core.List.{List}
-use Prim.Native.Nat.{ℕ, _^_, _≤_, _<_}
+use Prim.Native.Nat.{ℕ, _≤_, _<_}
 use native.Mathlib.Omega.{arith}
 use lib.ListN.{length}
 use Rattle.maths.specs.Transform.{send, recover}
 use Rattle.maths.proofs.Transform.{send-length, recover-length}
 use Rattle.maths.specs.Vector.{AllBelow}
 use Rattle.ntt.proofs.Whole.{send-below, recover-below}
+use Rattle.montgomery.specs.Scaled.{Modulus}
 use Rattle.sets.specs.Table.{setOf, IsSet}
 use Rattle.sets.specs.Derived.{transformSize}
 use Rattle.ntt_products.specs.Stored.{rowCount, sent, sentInverse, recoveredInverse, recovered, products}
 use Rattle.ntt_products.specs.Placed.{Placed}
 use Rattle.ntt_products.proofs.Pointwise.{products-length, products-below}
-use Rattle.ntt_products.proofs.Sizes.{size-rows, some-modulus, small-modulus}
+use Rattle.ntt_products.proofs.Sizes.{size-rows, some-modulus}
 
 -- xs has all places of transform number i, with a residue at each
 abbrev pub Stored : ℕ → ℕ → List ℕ → Type 0
@@ -87,16 +88,9 @@ module _ (set : ℕ) (low : IsSet set) (i : ℕ) where
   pub factors : {q : ℕ} {x y new : List ℕ} → q ≡ setOf set .q → new ≡ x → Stored set i x → Stored set i y → (length y ≡ length new) × AllBelow q (length new) y
   factors modulus same x y = rw (modulus, same) (y .size ∙ sym (x .size), rw (x .size) (y .residues))
 
-  -- a total to which their products may be added
-  pub addends : {total x y : List ℕ} → Stored set i total → Stored set i x → Stored set i y
-      → (length x ≡ length total) × (length y ≡ length total) × AllBelow (setOf set .q) (length total) total × AllBelow (setOf set .q) (length total) x
-      × AllBelow (setOf set .q) (length total) y × (setOf set .q < 2 ^ 24)
-  addends total x y = (
-    x .size ∙ sym (total .size),
-    y .size
-        ∙ sym (total .size),
-    rw (total .size) (total .residues),
-    rw (total .size) (x .residues),
-    rw (total .size) (y .residues),
-    small-modulus set low i,
-  )
+  -- a total to which products may be added, of which x has one factor in scaled form and y the other
+  pub addends : {k : ℕ} {total x y : List ℕ} → Modulus (setOf set .q) k → Stored set i total → Stored set i x → Stored set i y
+      → Modulus (setOf set .q) k × (length x ≡ length total) × (length y ≡ length total) × AllBelow (setOf set .q) (length total) total
+      × AllBelow (setOf set .q) (length total) x
+  addends modulus total x y =
+      (modulus, x .size ∙ sym (total .size), y .size ∙ sym (total .size), rw (total .size) (total .residues), rw (total .size) (x .residues))

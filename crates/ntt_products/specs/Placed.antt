@@ -8,13 +8,18 @@ use Rattle.maths.specs.Vector.{AllBelow}
 use Rattle.sets.specs.declared.Parameters.{Parameters}
 use Rattle.sets.specs.Derived.{transformSize, transformRoot}
 use Rattle.ntt_by_row.specs.Lent.{Lent, TablesFor}
-use Rattle.ntt_products.specs.Stored.{rowCount, rootInverse}
+use Rattle.ntt_products.specs.Stored.{rowCount, rootInverse, sent, unscaled}
 
 -- xs has the places of transform number i, and its first n numbers are residues
 pub record Placed (p : Parameters) (i n : ℕ) (xs : List ℕ) : Type 0 where
   pub size : length xs ≡ transformSize p i
   pub inside : n ≤ transformSize p i
   pub residues : AllBelow (p .q) n xs
+
+-- x has all places of transform number i, and its numbers are the scaled forms of xs as it is sent
+pub record SentScaled (p : Parameters) (i : ℕ) (xs x : List ℕ) : Type 0 where
+  pub placed : Placed p i (transformSize p i) x
+  pub unscaled-is : unscaled (p .q) x ≡ sent p i xs
 
 -- the places of the tables of transform number i
 abbrev pub tableLength : Parameters → ℕ → ℕ

@@ -1,7 +1,7 @@
 -- Vectors as a set's transforms store them, and the products that go through them (003 section 3.2; algorithms 40 to 42).
 -- Assumes nothing.
 use mathlib.Core.Path.{_≡_, refl}
-use mathlib.Core.List.{List, [], _∷_}
+use mathlib.Core.List.{List, [], _∷_, map}
 use Prim.Native.Nat.{ℕ, _+_, _*_, _/_, _%_}
 use lib.ListN.{length}
 use Rattle.maths.specs.Vector as vectors
@@ -61,6 +61,10 @@ correlations q x y m = tabulate m (λ j. correlation (length x) (at x) (at y) j 
 unfoldable pub products : ℕ → List ℕ → List ℕ → List ℕ
 products q x y = tabulate (length x) (λ k. at x k * unscale q (at y k) % q)
 
+-- what the numbers of x are the scaled forms of
+unfoldable pub unscaled : ℕ → List ℕ → List ℕ
+unscaled q x = map (unscale q) x
+
 -- the products of x and y, each added to the number of a total at its place
 unfoldable pub accumulated : ℕ → List ℕ → List ℕ → List ℕ → List ℕ
 accumulated q total x y = tabulate (length total) (λ k. (at total k + at x k * at y k) % q)
@@ -97,6 +101,10 @@ correlations-example = refl
 products-example : products 7 (3 ∷ []) (6 ∷ []) ≡ 1 ∷ []
 unfolding products vectors.tabulate scaled.unscale
 products-example = refl
+
+unscaled-example : unscaled 7 (6 ∷ 4 ∷ []) ≡ 5 ∷ 1 ∷ []
+unfolding unscaled scaled.unscale
+unscaled-example = refl
 
 accumulated-example : accumulated 17 (1 ∷ 2 ∷ []) (3 ∷ 4 ∷ []) (5 ∷ 6 ∷ []) ≡ 16 ∷ 9 ∷ []
 unfolding accumulated vectors.tabulate

@@ -2,17 +2,19 @@
 // A vector is lent with the places of a transform; `tables` holds those of its root, or of the inverse of its root.
 use sets::Parameters;
 ghost use mathlib.Core.Path.{_≡_};
-ghost use Prim.Native.Nat.{ℕ, _+_, _^_, _≤_, _<_};
+ghost use mathlib.Core.List.{map};
+ghost use Prim.Native.Nat.{ℕ, _+_, _≤_, _<_};
 ghost use lib.ListN.{length, take};
 ghost use Rattle.maths.specs.Transform.{send, recover};
 ghost use Rattle.maths.specs.Vector.{AllBelow};
+ghost use Rattle.calls.specs.Region.{over};
 ghost use Rattle.sets.specs.Table.{setOf, IsSet};
 ghost use Rattle.sets.specs.Derived.{transformSize};
 ghost use Rattle.sets.specs.Rules.{Rules};
-ghost use Rattle.montgomery.specs.Scaled.{scale, Modulus};
+ghost use Rattle.montgomery.specs.Scaled.{scale, Odd, Modulus};
 ghost use Rattle.ntt_products.specs.Stored.{rowCount, sizeInverse, inversePowers, sent, sentInverse, recoveredInverse, recovered, products, accumulated};
-ghost use Rattle.ntt_products.specs.Stored.{correlations};
-ghost use Rattle.ntt_products.specs.Placed.{Placed, tableLength, SetLent, SetTables, RootTables, InverseTables};
+ghost use Rattle.ntt_products.specs.Stored.{unscaled, correlations};
+ghost use Rattle.ntt_products.specs.Placed.{Placed, SentScaled, tableLength, SetLent, SetTables, RootTables, InverseTables};
 
 // Multiplies each number of `x` by the one that the number of `y` at its place is the scaled form of.
 fn multiply(x: &mut [u32], y: &[u32], q: u32, k: u32)
@@ -26,18 +28,28 @@ fn multiply(x: &mut [u32], y: &[u32], q: u32, k: u32)
     }
 }
 
-// Adds to each number of `total` the product of the numbers of `x` and `y` at its place.
-pub fn accumulate(total: &mut [u32], x: &[u32], y: &[u32], q: u32)
-    requires { ⌜ (length (now x) ≡ length (now total)) × (length (now y) ≡ length (now total)) × AllBelow q (length (now total)) (now total)
-        × AllBelow q (length (now total)) (now x) × AllBelow q (length (now total)) (now y) × (q < 2 ^ 24) ⌝ }
-    ensures { λ _. ⌜ now (total .exit) ≡ accumulated q (now (total .entry)) (now (x .entry)) (now (y .entry)) ⌝ }
+// Adds to each number of `total` the product of the numbers at its place: the one of `y`, and the one that `x` has the scaled form of.
+pub fn accumulate(total: &mut [u32], x: &[u32], y: &[u32], q: u32, k: u32)
+    requires { ⌜ Modulus q k × (length (now x) ≡ length (now total)) × (length (now y) ≡ length (now total))
+        × AllBelow q (length (now total)) (now total) × AllBelow q (length (now total)) (now x) ⌝ }
+    ensures { λ _. ⌜ now (total .exit) ≡ accumulated q (now (total .entry)) (unscaled q (now (x .entry))) (now (y .entry)) ⌝ }
 {
-    let mut k: usize = 0;
-    while k < total.len() {
-        let product = residues::multiply(x[k], y[k], q);
-        total[k] = residues::add(total[k], product, q);
-        k += 1;
+    let mut j: usize = 0;
+    while j < total.len() {
+        let product = residues::reduce_once(montgomery::product(y[j], x[j], q, k), q);
+        total[j] = residues::add(total[j], product, q);
+        j += 1;
     }
+}
+
+// Brings the first `n` numbers of `x` into scaled form.
+fn scale_first(x: &mut [u32], n: usize, q: u32)
+    requires { ⌜ Odd q × (n ≤ length (now x)) ⌝ }
+    ensures { λ _. ⌜ now (x .exit) ≡ over (now (x .entry)) 0 (map (scale q) (take n (now (x .entry)))) ⌝ }
+{
+    let by = montgomery::scaled_scale(q);
+    let k = montgomery::negated_inverse(q);
+    ntt_rows::settle(&mut x[0..n], by, q, k);
 }
 
 // The size of transform number i of a set.
@@ -127,6 +139,15 @@ pub fn send_first(set: usize, i: usize, tables: &[u32], x: &mut [u32], n: usize)
     ensures { λ _. ⌜ now (x .exit) ≡ sent (setOf set) i (take n (now (x .entry))) ⌝ }
 {
     send_front(sets::parameters_of(set), i, tables, x, n);
+}
+
+// Sends the first `n` numbers of `x` with root number i of a set and leaves them in scaled form, as `accumulate` takes them.
+pub fn send_first_scaled(set: usize, i: usize, tables: &[u32], x: &mut [u32], n: usize)
+    requires { ⌜ IsSet set × RootTables (setOf set) i (now tables) × Placed (setOf set) i n (now x) ⌝ }
+    ensures { λ _. ⌜ SentScaled (setOf set) i (take n (now (x .entry))) (now (x .exit)) ⌝ }
+{
+    scale_first(x, n, sets::parameters_of(set).q);
+    send_first(set, i, tables, x, n);
 }
 
 // Sends the first `n` numbers of `x` with the inverse of the root.

@@ -1,4 +1,4 @@
--- `ntt_products::accumulate` meets its contract: after k turns the first k products are added, and the other numbers are as they were.
+-- `ntt_products::accumulate` meets its contract: after j turns the first j products are added, and the other numbers are as they were.
 -- Assumes nothing.
 use mathlib.Core.Path.{refl, sym, _∙_}
 use Prim.Native.Nat.{_-_, _<_}
@@ -6,49 +6,60 @@ use native.Mathlib.Nat.{zero-add, mod-lt}
 use native.Mathlib.Omega.{arith}
 use lib.ListN.{length}
 use Rattle.maths.specs.Vector.{at}
-use Rattle.maths.proofs.Congruence.{mod-refl, mod-add, mod-remainder}
 use Rattle.calls.proofs.Filled.{Filled, filled-none, filled-more, filled-whole, ahead}
-use Rattle.ntt_products.specs.Stored.{accumulated}
-use Rattle.ntt_products.proofs.Pointwise.{accumulated-length, accumulated-at}
+use Rattle.ntt_products.specs.Stored.{unscaled, accumulated}
+use Rattle.ntt_products.proofs.Pointwise.{accumulated-length, accumulated-scaled}
 use borrow.Author.Needs.{needs}
 use Rattle.ntt_products.proofs.accumulate.Statement.{statement}
 use Rattle.ntt_products.proofs.accumulate.Tie as tie
 
 abbrev Inv-loop : tie.InvT-loop
-Inv-loop total₀ x y q k₀ total k = Filled total₀ 0 (length total₀) (accumulated q total₀ x y) k total
+Inv-loop total₀ x y q k j₀ total j = Filled total₀ 0 (length total₀) (accumulated q total₀ (unscaled q x) y) j total
 
 abbrev μ-loop : tie.MeasureT-loop
-μ-loop total₀ x y q k₀ total k = length total₀ - k
+μ-loop total₀ x y q k j₀ total j = length total₀ - j
+
+-- the start, and where a turn begins
+abbrev start : tie.In-loop Inv-loop μ-loop → tie.Start Inv-loop μ-loop
+start c = c .before .before .before .before .before
+
+abbrev turn : tie.In-loop Inv-loop μ-loop → tie.At-loop Inv-loop μ-loop
+turn c = c .before
+
+-- the place of a turn is one of the total, and of x
+turn-below : (c : tie.In-loop Inv-loop μ-loop) → turn c .loop .j < length (start c .args .total .now)
+turn-below c = omega (arith, turn c .loop .inv .kept-length, c .loop-test .taken)
+
+turn-inside : (c : tie.In-loop Inv-loop μ-loop) → turn c .loop .j < length (start c .args .x .now)
+turn-inside c = omega (arith, turn-below c, start c .pre .1)
 
 loop-holds : tie.Need-loop-holds Inv-loop μ-loop
 loop-holds c = filled-none (accumulated-length _ _ _ _) (omega arith)
 
-multiply-requires : tie.Need-multiply-requires Inv-loop μ-loop
-multiply-requires c κs =
-    let start = c .before .before .before .before .before .before .before in
-    let turn = c .before .before .before .loop in
-    let below : turn .k < length (start .args .total .now) = omega (arith, turn .inv .kept-length, c .before .before .loop-test .taken) in
-    (start .pre .3 .each (turn .k) below, start .pre .4 .each (turn .k) below, start .pre .5)
+product-requires : tie.Need-product-requires Inv-loop μ-loop
+product-requires c κs =
+    let at = c .before .before in
+    (start at .pre .0, start at .pre .4 .each (turn at .loop .j) (turn-below at))
+
+reduce-once-requires : tie.Need-reduce-once-requires Inv-loop μ-loop
+reduce-once-requires c κs = (c .product .ensures .1, start (c .before .before .before) .pre .0 .modulus .small)
 
 add-requires : tie.Need-add-requires Inv-loop μ-loop
 add-requires c κs =
-    let start = c .before .before .before .before .before .before .before .before .before in
-    let turn = c .before .before .before .before .before .loop in
-    let below : turn .k < length (start .args .total .now) = omega (arith, turn .inv .kept-length, c .before .before .before .before .loop-test .taken) in
-    let residue : at (start .args .total .now) (turn .k) < start .args .q = start .pre .2 .each (turn .k) below in
-    (rw (ahead (turn .inv)) residue, rw (c .before .multiply .ensures) (mod-lt _ (omega arith)), start .pre .5)
+    let here = c .before .before .before .before .before in
+    let pre = start here .pre in
+    let residue : at (start here .args .total .now) (turn here .loop .j) < start here .args .q = pre .3 .each (turn here .loop .j) (turn-below here) in
+    (rw (ahead (turn here .loop .inv)) residue, rw (c .before .reduce-once .ensures) (mod-lt _ (omega (arith, pre .0 .modulus .some))), pre .0 .modulus .small)
 
 loop-again : tie.Need-loop-again Inv-loop μ-loop
 loop-again c =
-    let at-slice = c .before .before .before .before .before .before .before .before .before in
-    let start = at-slice .before in
-    let turn = c .before .before .before .before .before .before .loop in
-    let below : turn .k < length
-    (start .args .total .now) = omega (arith, turn .inv .kept-length, c .before .before .before .before .before .loop-test .taken) in
-    filled-more 0 (turn .inv) below (sym (zero-add (turn .k)))
+    let here = c .before .before .before .before .before .before in
+    let args = start here .args in
+    let this = turn here .loop in
+    filled-more 0 (this .inv) (turn-below here) (sym (zero-add (this .j)))
     (c .add .ensures
-    ∙ rw (ahead (turn .inv), c .before .before .multiply .ensures) (mod-add (mod-refl _) (mod-remainder (start .args .q) _) .same)
-    ∙ sym (accumulated-at (start .args .q) (start .args .total .now) (start .args .x .now) (start .args .y .now) (turn .k) below))
+    ∙ rw (ahead (this .inv), c .before .before .reduce-once .ensures, c .before .before .before .product .ensures .0)
+    (sym (accumulated-scaled (args .q) (args .total .now) (args .x .now) (args .y .now) (this .j) (turn-below here) (turn-inside here))))
 
 returns : tie.Need-returns Inv-loop μ-loop
 returns c = filled-whole (c .before .loop .inv) refl (omega (arith, c .loop-test .left, c .before .loop .inv .kept-length))
@@ -64,7 +75,8 @@ accumulate-spec =
     (λ c. search needs)
     (λ c. search needs)
     (λ c. search needs)
-    multiply-requires
+    product-requires
+    reduce-once-requires
     (λ c. search needs)
     (λ c. search needs)
     add-requires

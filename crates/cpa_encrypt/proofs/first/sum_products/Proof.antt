@@ -10,7 +10,8 @@ use Rattle.sets.specs.declared.Parameters.{Parameters}
 use Rattle.sets.specs.Table.{setOf}
 use Rattle.byte_source.specs.Source.{stateAt}
 use Rattle.samplers.specs.Blocks.{onward, refusedBy}
-use Rattle.sets.proofs.Rules.{rules-of}
+use Rattle.sets.proofs.Rules.{rules, rules-of}
+use Rattle.ntt_products.proofs.Laws.{rules-odd}
 use Rattle.cpa_encrypt.proofs.Adding.{Adding, adding-none, adding-more, adding-addends, adding-all}
 use Rattle.cpa_encrypt.proofs.Adding.{PolynomialSent, polynomial-sent, polynomial-refused, counter-small}
 use borrow.Author.Needs.{needs}
@@ -18,21 +19,24 @@ use Rattle.cpa_encrypt.proofs.first.sum_products.Statement.{statement}
 use Rattle.cpa_encrypt.proofs.first.sum_products.Tie as tie
 
 abbrev Inv-loop : tie.InvT-loop
-Inv-loop set seed multipliers tables total₀ x₀ y₀ p counter₀ i₀ total x y counter i =
+Inv-loop set seed multipliers tables total₀ x₀ y₀ p k counter₀ i₀ total x y counter i =
     Adding set seed multipliers (length total₀) total x y counter i
 
 abbrev μ-loop : tie.MeasureT-loop
-μ-loop set seed multipliers tables total₀ x₀ y₀ p counter₀ i₀ total x y counter i = p .t - i
+μ-loop set seed multipliers tables total₀ x₀ y₀ p k counter₀ i₀ total x y counter i = p .t - i
 
--- the start, the set's parameters, where a turn begins, where it is tested, and where its two vectors are sent
+-- the start, where a turn begins, the set's parameters, where the turn is tested, and where its two vectors are sent
 abbrev start : tie.After-parameters-of Inv-loop μ-loop → tie.Start Inv-loop μ-loop
 start c = c .before .before .before .before .before .before .before
 
 abbrev turn : tie.Then1 Inv-loop μ-loop → tie.At-loop Inv-loop μ-loop
 turn c = c .before .before
 
+abbrev known : tie.Then1 Inv-loop μ-loop → tie.After-parameters-of Inv-loop μ-loop
+known c = turn c .before .before
+
 abbrev begun : tie.Then1 Inv-loop μ-loop → tie.Start Inv-loop μ-loop
-begun c = start (turn c .before)
+begun c = start (known c)
 
 abbrev test : tie.After-send-multipliers Inv-loop μ-loop → tie.Then1 Inv-loop μ-loop
 test c = c .before .before
@@ -46,12 +50,15 @@ second c = c .before .before .before .before
 abbrev told : tie.After-accumulate Inv-loop μ-loop → tie.After-drawn Inv-loop μ-loop
 told c = c .before .before .before .before .before
 
+negated-inverse-requires : tie.Need-negated-inverse-requires Inv-loop μ-loop
+negated-inverse-requires c κs = rw (c .parameters-of .ensures) (rules-odd (setOf (start c .args .set)) (rules (start c .args .set) (start c .pre .1)))
+
 loop-holds : tie.Need-loop-holds Inv-loop μ-loop
-loop-holds c = let from = start c in adding-none (from .args .set) (from .pre .1) _ _ _ _ _ (from .pre .5) (from .pre .6) (from .pre .7)
+loop-holds c = let from = start (c .before) in adding-none (from .args .set) (from .pre .1) _ _ _ _ _ (from .pre .5) (from .pre .6) (from .pre .7)
 
 -- a turn is one of t
 turn-below : (c : tie.Then1 Inv-loop μ-loop) → turn c .loop .i < setOf (begun c .args .set) .t
-turn-below c = omega (arith, c .if1 .taken, ap (λ (r : Parameters). r .t) (turn c .before .parameters-of .ensures))
+turn-below c = omega (arith, c .if1 .taken, ap (λ (r : Parameters). r .t) (known c .parameters-of .ensures))
 
 send-multipliers-requires : tie.Need-send-multipliers-requires Inv-loop μ-loop
 send-multipliers-requires c κs =
@@ -97,14 +104,14 @@ accumulate-requires c κs =
     let at = c .before .before .before .before in
     let tested = test (first (second at)) in
     let from = begun tested in
-    adding-addends (from .args .set) (from .pre .1) (from .args .seed .now) (from .args .multipliers .now) _ (turn tested .before .parameters-of .ensures)
-    (turn tested .loop .inv) (first (second at) .send-multipliers .ensures) (sent-here at .y-is)
+    adding-addends (from .args .set) (from .pre .1) (from .args .seed .now) (from .args .multipliers .now) _ (known tested .parameters-of .ensures)
+    (turn tested .before .negated-inverse .ensures) (turn tested .loop .inv) (first (second at) .send-multipliers .ensures) (sent-here at .y-is)
 
 add-i : tie.Need-add-i Inv-loop μ-loop
 add-i c =
     let tested = test (first (second (told (c .before .before)))) in
     let from = begun tested in
-    omega (arith, tested .if1 .taken, rules-of (from .args .set) (from .pre .1) _ (turn tested .before .parameters-of .ensures) .most-t)
+    omega (arith, tested .if1 .taken, rules-of (from .args .set) (from .pre .1) _ (known tested .parameters-of .ensures) .most-t)
 
 loop-less : tie.Need-loop-less Inv-loop μ-loop
 loop-less c = omega (arith, test (first (second (told (c .before .before)))) .if1 .taken)
@@ -116,14 +123,14 @@ loop-again c =
     let from = begun tested in
     adding-more (from .args .set) (from .pre .1) (from .args .seed .now) (from .args .multipliers .now) _ _ _ _ (turn tested .loop .inv) (turn-below tested)
     (sent-here at) (first (second at) .send-multipliers .ensures)
-    (rw (turn tested .before .parameters-of .ensures) at (c .before .before .accumulate .ensures))
+    (rw (known tested .parameters-of .ensures) at (c .before .before .accumulate .ensures))
 
 returns-2 : tie.Need-returns-2 Inv-loop μ-loop
 returns-2 c =
     let at = c .before .before in
-    let from = start (at .before) in
+    let from = start (at .before .before) in
     adding-all (from .args .set) (from .pre .1) (from .args .seed .now) (from .args .multipliers .now) (at .loop .inv)
-    (omega (arith, c .if1 .left, ap (λ (r : Parameters). r .t) (at .before .parameters-of .ensures)))
+    (omega (arith, c .if1 .left, ap (λ (r : Parameters). r .t) (at .before .before .parameters-of .ensures)))
 
 pub sum-products-spec : {M : Type 1} → statement M
 sum-products-spec =
@@ -132,6 +139,7 @@ sum-products-spec =
     Inv-loop
     μ-loop
     (λ c κs. search needs)
+    negated-inverse-requires
     loop-holds
     send-multipliers-requires
     send-drawn-requires

@@ -1,118 +1,125 @@
 -- After i turns the products of the first i polynomials are added up.
 -- Assumes nothing.
-use mathlib.Core.Path.{ap}
-use Prim.Native.Nat.{_-_, _<_}
+use mathlib.Core.Path.{_≡_, ap}
+use Prim.Native.Nat.{_+_, _-_, _*_, _<_}
 use native.Mathlib.Omega.{arith}
-use lib.ListN.{length}
+use lib.ListN.{length, take, drop}
+use Rattle.calls.specs.Region.{vector}
 use Rattle.sets.specs.declared.Parameters.{Parameters}
 use Rattle.sets.specs.Table.{setOf}
-use Rattle.sets.proofs.Rules.{rules-of}
-use Rattle.cpa_encrypt.proofs.Correlating.{Correlating, key-room, key-part, correlating-none, correlating-more, correlating-addends, correlating-all}
+use Rattle.sets.proofs.Rules.{rules, rules-of}
+use Rattle.ntt_products.proofs.Laws.{rules-odd}
+use Rattle.cpa_encrypt.proofs.Correlating.{Correlating, KeyRoom, key-room, key-part, correlating-none}
+use Rattle.cpa_encrypt.proofs.Correlating.{correlating-more, correlating-addends, correlating-all}
 use borrow.Author.Needs.{needs}
 use Rattle.cpa_encrypt.proofs.second.sum_stored.Statement.{statement}
 use Rattle.cpa_encrypt.proofs.second.sum_stored.Tie as tie
 
 abbrev Inv-loop : tie.InvT-loop
-Inv-loop set numbers multipliers tables total₀ x₀ p i₀ total x i = Correlating set numbers multipliers (length total₀) total x i
+Inv-loop set numbers multipliers tables total₀ x₀ p k i₀ total x i = Correlating set numbers multipliers (length total₀) total x i
 
 abbrev μ-loop : tie.MeasureT-loop
-μ-loop set numbers multipliers tables total₀ x₀ p i₀ total x i = p .t - i
+μ-loop set numbers multipliers tables total₀ x₀ p k i₀ total x i = p .t - i
+
+-- the start, where a turn begins, the set's parameters, where the turn is tested, and where its vector was sent
+abbrev start : tie.After-parameters-of Inv-loop μ-loop → tie.Start Inv-loop μ-loop
+start c = c .before .before .before .before .before .before
+
+abbrev turn : tie.Then1 Inv-loop μ-loop → tie.At-loop Inv-loop μ-loop
+turn c = c .before .before
+
+abbrev known : tie.Then1 Inv-loop μ-loop → tie.After-parameters-of Inv-loop μ-loop
+known c = turn c .before .before
+
+abbrev begun : tie.Then1 Inv-loop μ-loop → tie.Start Inv-loop μ-loop
+begun c = start (known c)
+
+abbrev test : tie.After-send-multipliers Inv-loop μ-loop → tie.Then1 Inv-loop μ-loop
+test c = c .before .before
+
+abbrev sent : tie.After-accumulate Inv-loop μ-loop → tie.After-send-multipliers Inv-loop μ-loop
+sent c = c .before .before .before .before .before .before .before .before
+
+negated-inverse-requires : tie.Need-negated-inverse-requires Inv-loop μ-loop
+negated-inverse-requires c κs = rw (c .parameters-of .ensures) (rules-odd (setOf (start c .args .set)) (rules (start c .args .set) (start c .pre .0)))
 
 loop-holds : tie.Need-loop-holds Inv-loop μ-loop
-loop-holds c =
-    let start = c .before .before .before .before .before .before in correlating-none (start .args .set) (start .pre .0) _ _ _ _ (start .pre .4) (start .pre .5)
+loop-holds c = let from = start (c .before) in correlating-none (from .args .set) (from .pre .0) _ _ _ _ (from .pre .4) (from .pre .5)
 
 -- a turn is one of t
-turn-below : (c : tie.Then1 Inv-loop μ-loop)
-    → c .before .before .loop .i < setOf (c .before .before .before .before .before .before .before .before .before .args .set) .t
-turn-below c = omega (arith, c .if1 .taken, ap (λ (r : Parameters). r .t) (c .before .before .before .parameters-of .ensures))
+turn-below : (c : tie.Then1 Inv-loop μ-loop) → turn c .loop .i < setOf (begun c .args .set) .t
+turn-below c = omega (arith, c .if1 .taken, ap (λ (r : Parameters). r .t) (known c .parameters-of .ensures))
+
+-- its b̂_i lies within all of them
+turn-room : (c : tie.Then1 Inv-loop μ-loop) → let set = begun c .args .set in
+    KeyRoom (known c .parameters-of .result) (turn c .loop .i) (setOf set .d1 * setOf set .t)
+turn-room c = key-room (begun c .args .set) (begun c .pre .0) _ (known c .parameters-of .ensures) (turn c .loop .i) (turn-below c)
+
+-- and is the part that is lent
+turn-part : (c : tie.Then1 Inv-loop μ-loop) → let p = known c .parameters-of .result in
+    let i = turn c .loop .i in
+    let numbers = begun c .args .numbers .now in
+    take (p .d1 * i + p .d1 - p .d1 * i) (drop (p .d1 * i) numbers) ≡ vector (setOf (begun c .args .set) .d1) numbers i
+turn-part c =
+    key-part (begun c .args .set) (begun c .pre .0) (begun c .args .numbers .now) (begun c .args .multipliers .now) _ (known c .parameters-of .ensures)
+    (turn c .loop .i)
 
 send-multipliers-requires : tie.Need-send-multipliers-requires Inv-loop μ-loop
 send-multipliers-requires c κs =
-    let at-loop = c .before .before .before in
-    let at-start = at-loop .before .before .before .before .before .before .before in
-    let pre = at-start .pre in (pre .0, pre .3, pre .2, turn-below (c .before), at-loop .loop .inv .x-size)
+    let pre = begun (c .before) .pre in (pre .0, pre .3, pre .2, turn-below (c .before), turn (c .before) .loop .inv .x-size)
 
 mul-from : tie.Need-mul-from Inv-loop μ-loop
 mul-from c =
-    let at-then1 = c .before .before .before .before .before in
-    let at-parameters-of = at-then1 .before .before .before in
-    let start = at-parameters-of .before .before .before .before .before .before in
-    let room = key-room (start .args .set) (start .pre .0) _ (at-parameters-of .parameters-of .ensures) _ (turn-below (at-then1)) in
-    omega (arith, room .within, room .few, start .pre .1 .size)
+    let tested = test (c .before .before .before) in
+    omega (arith, turn-room tested .within, turn-room tested .few, begun tested .pre .1 .size)
 
 add-end : tie.Need-add-end Inv-loop μ-loop
 add-end c =
-    let at-then1 = c .before .before .before .before .before .before in
-    let at-parameters-of = at-then1 .before .before .before in
-    let start = at-parameters-of .before .before .before .before .before .before in
-    let room = key-room (start .args .set) (start .pre .0) _ (at-parameters-of .parameters-of .ensures) _ (turn-below (at-then1)) in
-    omega (arith, room .within, room .few, start .pre .1 .size)
+    let tested = test (c .before .before .before .before) in
+    omega (arith, turn-room tested .within, turn-room tested .few, begun tested .pre .1 .size)
 
 mul-accumulate : tie.Need-mul-accumulate Inv-loop μ-loop
 mul-accumulate c =
-    let at-then1 = c .before .before .before .before .before .before .before .before in
-    let at-parameters-of = at-then1 .before .before .before in
-    let start = at-parameters-of .before .before .before .before .before .before in
-    let room = key-room (start .args .set) (start .pre .0) _ (at-parameters-of .parameters-of .ensures) _ (turn-below (at-then1)) in
-    omega (arith, room .within, room .few, start .pre .1 .size)
+    let tested = test (c .before .before .before .before .before .before) in
+    omega (arith, turn-room tested .within, turn-room tested .few, begun tested .pre .1 .size)
 
 part-accumulate-end : tie.Need-part-accumulate-end Inv-loop μ-loop
 part-accumulate-end c =
-    let at-then1 = c .before .before .before .before .before .before .before .before in
-    let at-parameters-of = at-then1 .before .before .before in
-    let start = at-parameters-of .before .before .before .before .before .before in
-    let room = key-room (start .args .set) (start .pre .0) _ (at-parameters-of .parameters-of .ensures) _ (turn-below (at-then1)) in
-    omega (arith, room .within, room .few, start .pre .1 .size)
+    let tested = test (c .before .before .before .before .before .before) in
+    omega (arith, turn-room tested .within, turn-room tested .few, begun tested .pre .1 .size)
 
 accumulate-requires : tie.Need-accumulate-requires Inv-loop μ-loop
 accumulate-requires c κs =
-    let at-send-multipliers = c .before .before .before .before .before .before .before in
-    let at-then1 = at-send-multipliers .before .before in
-    let at-loop = at-then1 .before .before in
-    let at-parameters-of = at-loop .before in
-    let start = at-parameters-of .before .before .before .before .before .before in
-    let set = start .args .set in
-    let low = start .pre .0 in
-    let i = at-loop .loop .i in
-    let numbers = start .args .numbers .now in
-    let e = at-parameters-of .parameters-of .ensures in
-    correlating-addends set low numbers (start .args .multipliers .now) _ e (start .pre .1) (at-loop .loop .inv) (turn-below (at-then1))
-    (at-send-multipliers .send-multipliers .ensures) (key-part set low numbers (start .args .multipliers .now) _ e i)
+    let at = c .before .before .before .before .before .before .before in
+    let tested = test at in
+    let from = begun tested in
+    correlating-addends (from .args .set) (from .pre .0) (from .args .numbers .now) (from .args .multipliers .now) _ (known tested .parameters-of .ensures)
+    (turn tested .before .negated-inverse .ensures) (from .pre .1) (turn tested .loop .inv) (turn-below tested) (at .send-multipliers .ensures)
+    (turn-part tested)
 
 add-i : tie.Need-add-i Inv-loop μ-loop
 add-i c =
-    let at-x = c .before .before .before .before .before .before .before .before .before in
-    let at-then1 = at-x .before .before .before in
-    let at-parameters-of = at-then1 .before .before .before in
-    let at-start = at-parameters-of .before .before .before .before .before .before in
-    omega (arith, at-then1 .if1 .taken, rules-of (at-start .args .set) (at-start .pre .0) _ (at-parameters-of .parameters-of .ensures) .most-t)
+    let tested = test (sent (c .before .before)) in
+    let from = begun tested in
+    omega (arith, tested .if1 .taken, rules-of (from .args .set) (from .pre .0) _ (known tested .parameters-of .ensures) .most-t)
 
 loop-less : tie.Need-loop-less Inv-loop μ-loop
-loop-less c =
-    let at-x = c .before .before .before .before .before .before .before .before .before in
-    let at-then1 = at-x .before .before .before in
-    omega (arith, at-then1 .if1 .taken)
+loop-less c = omega (arith, test (sent (c .before .before)) .if1 .taken)
 
 loop-again : tie.Need-loop-again Inv-loop μ-loop
 loop-again c =
-    let at-x = c .before .before .before .before .before .before .before .before .before in
-    let at-send-multipliers = at-x .before in
-    let at-then1 = at-send-multipliers .before .before in
-    let at-loop = at-then1 .before .before in
-    let at-parameters-of = at-loop .before in
-    let start = at-parameters-of .before .before .before .before .before .before in
-    let e = at-parameters-of .parameters-of .ensures in
-    correlating-more (start .args .set) (start .pre .0) (start .args .numbers .now) (start .args .multipliers .now) _ e _ _ _ (at-loop .loop .inv)
-    (turn-below (at-then1)) (at-send-multipliers .send-multipliers .ensures)
-    (key-part (start .args .set) (start .pre .0) (start .args .numbers .now) (start .args .multipliers .now) _ e (at-loop .loop .i))
-    (c .before .before .accumulate .ensures)
+    let at = sent (c .before .before) in
+    let tested = test at in
+    let from = begun tested in
+    correlating-more (from .args .set) (from .pre .0) (from .args .numbers .now) (from .args .multipliers .now) _ (known tested .parameters-of .ensures) _ _ _
+    (turn tested .loop .inv) (turn-below tested) (at .send-multipliers .ensures) (turn-part tested) (c .before .before .accumulate .ensures)
 
 returns : tie.Need-returns Inv-loop μ-loop
 returns c =
-    let start = c .before .before .before .before .before .before .before .before .before in
-    correlating-all (start .args .set) (start .pre .0) (start .args .numbers .now) (start .args .multipliers .now) (c .before .before .loop .inv)
-    (omega (arith, c .if1 .left, ap (λ (r : Parameters). r .t) (c .before .before .before .parameters-of .ensures)))
+    let at = c .before .before in
+    let from = start (at .before .before) in
+    correlating-all (from .args .set) (from .pre .0) (from .args .numbers .now) (from .args .multipliers .now) (at .loop .inv)
+    (omega (arith, c .if1 .left, ap (λ (r : Parameters). r .t) (at .before .before .parameters-of .ensures)))
 
 pub sum-stored-spec : {M : Type 1} → statement M
 sum-stored-spec =
@@ -121,6 +128,7 @@ sum-stored-spec =
     Inv-loop
     μ-loop
     (λ c κs. search needs)
+    negated-inverse-requires
     loop-holds
     send-multipliers-requires
     mul-from

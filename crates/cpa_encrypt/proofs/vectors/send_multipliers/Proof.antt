@@ -1,10 +1,7 @@
--- The polynomial stands among all multipliers; it is copied to the front of the slice and sent.
+-- The polynomial stands among all multipliers; it is copied to the front of the slice and sent in scaled form.
 -- Assumes nothing.
-use mathlib.Core.Path.{ap, _∙_}
 use native.Mathlib.Omega.{arith}
 use lib.ListN.{length-take, length-drop}
-use Rattle.sets.specs.Table.{setOf}
-use Rattle.ntt_products.specs.Stored.{sent}
 use Rattle.cpa_encrypt.proofs.Multiplied.{vector-room, multiplier-fits, multipliers-placed, multipliers-front}
 use borrow.Author.Needs.{needs}
 use Rattle.cpa_encrypt.proofs.vectors.send_multipliers.Statement.{statement}
@@ -53,8 +50,8 @@ copy-in-requires c κs =
     let room = vector-room (start .args .set) (pre .0) _ e (start .args .i) (pre .3) in
     simp (length-take, length-drop) (omega (arith, room .within, pre .2 .size, pre .4, multiplier-fits (start .args .set) (pre .0) _ e (start .args .number)))
 
-send-first-requires : tie.Need-send-first-requires
-send-first-requires c κs =
+send-first-scaled-requires : tie.Need-send-first-scaled-requires
+send-first-scaled-requires c κs =
     let at-copy-in = c .before .before .before in
     let at-parameters-of = at-copy-in .before .before .before .before in
     let start = at-parameters-of .before .before .before .before in
@@ -73,11 +70,11 @@ returns c =
     let at-parameters-of = at-copy-in .before .before .before .before in
     let start = at-parameters-of .before .before .before .before in
     let pre = start .pre in
-    c .before .before .send-first .ensures
-    ∙ rw (at-copy-in .copy-in .ensures)
-    (ap (sent (setOf (start .args .set)) (start .args .number))
-    (multipliers-front (start .args .set) (pre .0) _ (at-parameters-of .parameters-of .ensures) (start .args .number) (start .args .i) (start .args .x .now)
-    (start .args .multipliers .now) (pre .4) (pre .2) (pre .3)))
+    rw (
+      at-copy-in .copy-in .ensures,
+      multipliers-front (start .args .set) (pre .0) _ (at-parameters-of .parameters-of .ensures) (start .args .number)
+          (start .args .i) (start .args .x .now) (start .args .multipliers .now) (pre .4) (pre .2) (pre .3),
+    ) at (c .before .before .send-first-scaled .ensures)
 
 pub send-multipliers-spec : {M : Type 1} → statement M
 send-multipliers-spec =
@@ -92,6 +89,6 @@ send-multipliers-spec =
     (λ c. search needs)
     part-copy-in-end
     copy-in-requires
-    send-first-requires
+    send-first-scaled-requires
     (λ c. search needs)
     returns)
