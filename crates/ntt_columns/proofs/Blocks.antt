@@ -15,7 +15,7 @@ use Rattle.maths.proofs.Congruence.{mod-eq, mod-trans}
 use Rattle.calls.specs.Region.{over}
 use Rattle.calls.proofs.Region.{over-length, over-inside, over-outside}
 use Rattle.ntt_columns.specs.Columns.{columnSum, ColumnsReady, Columns}
-use Rattle.ntt_columns.specs.Blocks.{SumsReady, Sums, LoadReady, Loaded, BlockReady, Block}
+use Rattle.ntt_columns.specs.Blocks.{SumsReady, Sums, LoadReady, Loaded, ZerosFrom, BlockReady, Block}
 use Rattle.ntt_columns.proofs.Summing.{columnSum-cong}
 use Rattle.ntt_columns.proofs.Loading.{loaded-zeros, loaded-below}
 
@@ -56,11 +56,11 @@ module _ {q k m out δ b : ℕ} {factors old : List ℕ} (ready : BlockReady q k
         others = λ p n. s .others p (λ i j a t e. n i j (omega arith) t e);
       }
 
-  module _ {block zeros : List ℕ} (loaded : Loaded b m old zeros block) where
+  module _ {block lent : List ℕ} (loaded : Loaded b m old lent block) where
     -- what the sums of row r ask
-    pub sums-ready : {sums : List ℕ} {r : ℕ} → ((i : ℕ) → at zeros i ≡ 0) → length block ≡ 1024 → length sums ≡ 64 → r < out
+    pub sums-ready : {sums : List ℕ} {r : ℕ} → ZerosFrom m lent → length block ≡ 1024 → length sums ≡ 64 → r < out
         → SumsReady q k m r δ factors block sums
-    sums-ready none size sums-size h =
+    sums-ready zeros size sums-size h =
         record {
           modulus = ready .modulus;
           few-rows = ready .few-rows;
@@ -70,8 +70,8 @@ module _ {q k m out δ b : ℕ} {factors old : List ℕ} (ready : BlockReady q k
           size = size;
           factors-size = ready .factors-size;
           factors-below = ready .factors-below;
-          numbers = loaded-below loaded none 1024 (ready .numbers);
-          zeros = loaded-zeros loaded none;
+          numbers = loaded-below loaded zeros 1024 (ready .numbers);
+          zeros = loaded-zeros loaded zeros;
         }
 
     module _ {r : ℕ} {new : List ℕ} (sums : List ℕ) (s : Storing q m δ b factors old r new) (h : r < out) (sums-size : length sums ≡ 64) where

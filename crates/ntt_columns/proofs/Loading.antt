@@ -13,7 +13,7 @@ use Rattle.maths.specs.Vector.{at, AllBelow}
 use Rattle.maths.proofs.Vector.{at-past}
 use Rattle.calls.specs.Region.{region, over}
 use Rattle.calls.proofs.Region.{region-length, region-entry, over-length, over-inside, over-outside}
-use Rattle.ntt_columns.specs.Blocks.{LoadReady, Loaded}
+use Rattle.ntt_columns.specs.Blocks.{LoadReady, Loaded, ZerosFrom}
 
 -- the rows that are copied after n turns
 pub record Loading (b m : ℕ) (x old : List ℕ) (n : ℕ) (new : List ℕ) : Type 0 where
@@ -63,10 +63,10 @@ zeros-at n i =
       | no high ↦ at-past (replicate n 0) i (rw length-replicate (omega arith))
     ]
 
-module _ {b m : ℕ} {x old block : List ℕ} (loaded : Loaded b m x old block) (zeros : (i : ℕ) → at old i ≡ 0) where
+module _ {b m : ℕ} {x old block : List ℕ} (loaded : Loaded b m x old block) (zeros : ZerosFrom m old) where
   -- the rows from m on are zeros
   pub loaded-zeros : (i : ℕ) → 64 * m ≤ i → at block i ≡ 0
-  loaded-zeros i h = loaded .rest i h ∙ zeros i
+  loaded-zeros i h = loaded .rest i h ∙ zeros .zeros i h
 
   -- the numbers of the block are small where those of the columns are
   pub loaded-below : (room : ℕ) → ((n j : ℕ) → n < m → j < 64 → at x (n * 256 + (64 * b + j)) < 2 ^ 25) → AllBelow (2 ^ 25) room block

@@ -72,6 +72,11 @@ pub record Loaded (b m : ℕ) (x old new : List ℕ) : Type 0 where
   pub rows : (n j : ℕ) → n < m → j < 64 → at new (64 * n + j) ≡ at x (n * 256 + (64 * b + j))
   pub rest : (i : ℕ) → 64 * m ≤ i → at new i ≡ at old i
 
+-- a block of 16 rows of 64 numbers whose rows from m on are zeros, as they stay while the first m are loaded
+pub record ZerosFrom (m : ℕ) (block : List ℕ) : Type 0 where
+  pub size : length block ≡ 1024
+  pub zeros : (i : ℕ) → 64 * m ≤ i → at block i ≡ 0
+
 -- the columns from 64 · b on, before they are transformed
 pub record BlockReady (q k m out δ b : ℕ) (factors x : List ℕ) : Type 0 where
   pub modulus : Modulus q k

@@ -1,9 +1,9 @@
 // The columns of a transform: sums of at most 16 products for each of the 256 columns (003 section 3.2.2; algorithm 36, the transforms of length δ).
 // Four rows are taken at a time, and 64 columns, so that the compiler works on several places at a time.
 ghost use mathlib.Core.Path.{_≡_};
-ghost use Prim.Native.Nat.{_+_, _%_, _^_, _<_};
+ghost use Prim.Native.Nat.{_+_, _<_};
 ghost use Rattle.ntt_columns.specs.Columns.{ColumnsReady, Columns};
-ghost use Rattle.ntt_columns.specs.Blocks.{fourProducts, FourReady, AddReady, Added, SumsReady, Sums, LoadReady, Loaded, BlockReady, Block};
+ghost use Rattle.ntt_columns.specs.Blocks.{fourProducts, FourReady, AddReady, Added, SumsReady, Sums, LoadReady, Loaded, ZerosFrom, BlockReady, Block};
 
 // The sum of four products, of numbers that are 64 places apart.
 fn four_products(block: &[u32], at: usize, a: u32, b: u32, c: u32, d: u32) -> u64
@@ -81,9 +81,11 @@ fn load_block(block: &mut [u32], x: &[u32], b: usize, m: usize)
     }
 }
 
-// The first `out` values of the transforms of 64 columns of `m` numbers, in place.
+// The first `out` values of the transforms of 64 columns of `m` numbers, in place; `block` is lent for these columns, with zeros from row `m` on, which
+// stay.
 fn column_block(
     x: &mut [u32],
+    block: &mut [u32],
     factors: &[u32],
     b: usize,
     m: usize,
@@ -92,15 +94,15 @@ fn column_block(
     q: u32,
     k: u32,
 )
-    requires { ⌜ BlockReady q k m out rows b (now factors) (now x) ⌝ }
-    ensures { λ _. ⌜ Block q m out rows b (now (factors .entry)) (now (x .entry)) (now (x .exit)) ⌝ }
+    requires { ⌜ BlockReady q k m out rows b (now factors) (now x) × ZerosFrom m (now block) ⌝ }
+    ensures result { λ _. ⌜ Block q m out rows b (now (factors .entry)) (now (x .entry)) (now (x .exit)) ⌝ }
+    ensures lent { λ _. ⌜ ZerosFrom m (now (block .exit)) ⌝ }
 {
-    let mut block = [0u32; 1024];
     let mut sums = [0u32; 64];
-    load_block(&mut block, x, b, m);
+    load_block(block, x, b, m);
     let mut r: usize = 0;
     while r < out {
-        column_sums(&mut sums, &block, factors, m, r, rows, q, k);
+        column_sums(&mut sums, block, factors, m, r, rows, q, k);
         calls::copy_in(x, 256 * r + 64 * b, &sums);
         r += 1;
     }
@@ -112,9 +114,10 @@ pub fn columns(x: &mut [u32], factors: &[u32], m: usize, out: usize, rows: usize
     requires { ⌜ ColumnsReady q k m out rows (now factors) (now x) ⌝ }
     ensures { λ _. ⌜ Columns q m out rows (now (factors .entry)) (now (x .entry)) (now (x .exit)) ⌝ }
 {
+    let mut block = [0u32; 1024];
     let mut b: usize = 0;
     while b < 4 {
-        column_block(x, factors, b, m, out, rows, q, k);
+        column_block(x, &mut block, factors, b, m, out, rows, q, k);
         b += 1;
     }
 }
