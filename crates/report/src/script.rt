@@ -65,6 +65,38 @@ pub fn next_line() -> Line {
     }
 }
 
+// The first numbers of a line by name, the command's own and ten operands: in a proof a field is read in one step, an entry of an array in several.
+pub struct Command {
+    pub number: usize,
+    pub one: usize,
+    pub two: usize,
+    pub three: usize,
+    pub four: usize,
+    pub five: usize,
+    pub six: usize,
+    pub seven: usize,
+    pub eight: usize,
+    pub nine: usize,
+    pub ten: usize,
+}
+
+// Those of a line.
+pub fn command_of(line: [usize; 16]) -> Command {
+    Command {
+        number: line[0],
+        one: line[1],
+        two: line[2],
+        three: line[3],
+        four: line[4],
+        five: line[5],
+        six: line[6],
+        seven: line[7],
+        eight: line[8],
+        nine: line[9],
+        ten: line[10],
+    }
+}
+
 // Prints the text whose bytes stand after the command of a line, up to the first 0.
 pub fn text(line: [usize; 16]) {
     let mut i: usize = 1;

@@ -2,6 +2,7 @@
 // ciphertext.
 use crate::store;
 use calls::Answer;
+use report::script::Command;
 
 // Reads a ciphertext of Titanium-CPA, where every slice has the set's length.
 fn read(set: usize, seed: &[u8], sealed: &[u8], message: &mut [u8], work: &mut [u32]) -> Answer {
@@ -29,17 +30,17 @@ fn read(set: usize, seed: &[u8], sealed: &[u8], message: &mut [u8], work: &mut [
 
 // The same with the secret key and the ciphertext of the store; prints the answer, and keeps what is read. A line has the command, the set and the lengths of
 // the ciphertext and of the work slice.
-pub fn open(line: [usize; 16], store: &mut [u8]) {
+pub fn open(line: Command, store: &mut [u8]) {
     let mut message = [0u8; 32];
     let mut work = [0u32; 25080];
     report::answer(read(
-        line[1],
+        line.one,
         report::part(store, store::SECRET, 32),
-        report::part(store, store::SEALED, line[2]),
+        report::part(store, store::SEALED, line.two),
         &mut message,
-        report::numbers_mut(&mut work, 0, line[3]),
+        report::numbers_mut(&mut work, 0, line.three),
     ));
-    store::keep(store, store::OPENED, &message);
+    store::keep(store, store::OPENED, 32, &message);
 }
 
 // Writes the numbers of c2, where every slice has the set's length and every number of the public key is a residue.
@@ -77,16 +78,16 @@ fn write_unpacked(
 }
 
 // Prints the first eight of them, of what the store holds. A line has the command, the set and the lengths of the public key and of the work slice.
-pub fn print_unpacked(line: [usize; 16], store: &[u8]) {
+pub fn print_unpacked(line: Command, store: &[u8]) {
     let mut numbers = [0u32; 256];
     let mut work = [0u32; 25080];
     write_unpacked(
-        line[1],
-        report::part(store, store::PUBLIC, line[2]),
+        line.one,
+        report::part(store, store::PUBLIC, line.two),
         report::part(store, store::MESSAGE, 32),
         report::part(store, store::SEALING, 32),
         &mut numbers,
-        report::numbers_mut(&mut work, 0, line[3]),
+        report::numbers_mut(&mut work, 0, line.three),
     );
     report::words(report::numbers(&numbers, 0, 8));
     report::end();

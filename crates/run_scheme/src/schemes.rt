@@ -1,175 +1,188 @@
 // The calls of both schemes. Their outputs are filled with patterns before, and kept in the store. A line has the command, what is printed of the call, the
-// set, which lengths were changed, and the length of each slice of the call.
+// set, which lengths were changed, and the length of each slice of the call, the work slice last.
+use crate::patterns;
 use crate::store;
 use calls::Answer;
+use report::script::Command;
 
-// Prints a key: the name of the call, its answer, and checksums; a secret key of the encryption scheme is short, and printed itself.
-fn print_key(line: [usize; 16], answer: Answer, store: &[u8], work: &[u32]) {
-    if line[1] == 0 {
-        return;
+// Key of either scheme.
+fn make_key(
+    line: Command,
+    seed: &[u8],
+    public: &mut [u8],
+    secret: &mut [u8],
+    work: &mut [u32],
+) -> Answer {
+    if line.number == 8 {
+        encryption::key(line.two, seed, public, secret, work)
+    } else {
+        exchange::key(line.two, seed, public, secret, work)
     }
-    report::call(b"key", line[2], line[3]);
-    report::answer(answer);
+}
+
+// The same with the seed of the store.
+fn key(line: Command, store: &mut [u8], work: &mut [u32]) -> Answer {
+    let mut public = patterns::key(1);
+    let mut secret = patterns::key(2);
+    let answer = make_key(
+        line,
+        report::part(store, store::SEED, line.four),
+        report::front_mut(&mut public, line.five),
+        report::front_mut(&mut secret, line.six),
+        work,
+    );
+    store::keep(store, store::PUBLIC, 26913, &public);
+    store::keep(store, store::SECRET, 26945, &secret);
+    answer
+}
+
+// Encrypt.
+fn encrypt(line: Command, store: &mut [u8], work: &mut [u32]) -> Answer {
+    let mut sealed = patterns::sealed();
+    let answer = encryption::encrypt(
+        line.two,
+        report::part(store, store::PUBLIC, line.four),
+        report::part(store, store::MESSAGE, line.five),
+        report::part(store, store::SEALING, line.six),
+        report::front_mut(&mut sealed, line.seven),
+        work,
+    );
+    store::keep(store, store::SEALED, 8353, &sealed);
+    answer
+}
+
+// Encapsulate.
+fn encapsulate(line: Command, store: &mut [u8], work: &mut [u32]) -> Answer {
+    let mut sealed = patterns::sealed();
+    let mut shared = patterns::short(4);
+    let answer = exchange::encapsulate(
+        line.two,
+        report::part(store, store::PUBLIC, line.four),
+        report::part(store, store::MESSAGE, line.five),
+        report::front_mut(&mut sealed, line.six),
+        report::front_mut(&mut shared, line.seven),
+        work,
+    );
+    store::keep(store, store::SEALED, 8353, &sealed);
+    store::keep(store, store::SHARED, 33, &shared);
+    answer
+}
+
+// Decrypt or decapsulate.
+fn read(
+    line: Command,
+    secret: &[u8],
+    sealed: &[u8],
+    opened: &mut [u8],
+    work: &mut [u32],
+) -> Answer {
+    if line.number == 12 {
+        encryption::decrypt(line.two, secret, sealed, opened, work)
+    } else {
+        exchange::decapsulate(line.two, secret, sealed, opened, work)
+    }
+}
+
+// Where the pattern of what is opened begins: a message and a shared key have one each.
+fn opened_start(number: usize) -> usize {
+    if number == 12 { 4 } else { 5 }
+}
+
+// Opens the ciphertext of the store with the secret key there.
+fn open(line: Command, store: &mut [u8], work: &mut [u32]) -> Answer {
+    let mut opened = patterns::short(opened_start(line.number));
+    let answer = read(
+        line,
+        report::part(store, store::SECRET, line.four),
+        report::part(store, store::SEALED, line.five),
+        report::front_mut(&mut opened, line.six),
+        work,
+    );
+    store::keep(store, store::OPENED, 33, &opened);
+    answer
+}
+
+// Makes a call.
+fn made(line: Command, store: &mut [u8], work: &mut [u32]) -> Answer {
+    let number = line.number;
+    match number {
+        8 | 9 => key(line, store, work),
+        10 => encrypt(line, store, work),
+        11 => encapsulate(line, store, work),
+        _ => open(line, store, work),
+    }
+}
+
+// The length of the work slice: a sealing has one slice more than a key and an opening.
+fn work_length(line: Command) -> usize {
+    let number = line.number;
+    match number {
+        10 | 11 => line.eight,
+        _ => line.seven,
+    }
+}
+
+// Prints the name of a call.
+fn print_name(number: usize) {
+    match number {
+        8 | 9 => report::text(b"key"),
+        10 => report::text(b"encrypt"),
+        11 => report::text(b"encapsulate"),
+        12 => report::text(b"decrypt"),
+        _ => report::text(b"decapsulate"),
+    }
+}
+
+// Prints checksums of the long things that a call made, and the short ones themselves.
+fn print_made(number: usize, store: &[u8]) {
+    match number {
+        8 | 9 => print_keys(number, store),
+        10 => report::byte_sum(report::part(store, store::SEALED, 8321)),
+        11 => print_encapsulated(store),
+        _ => report::bytes(report::part(store, store::OPENED, 33)),
+    }
+}
+
+// The same of a key; a secret key of the encryption scheme is short.
+fn print_keys(number: usize, store: &[u8]) {
     report::byte_sum(report::part(store, store::PUBLIC, 26913));
-    if line[0] == 8 {
+    if number == 8 {
         report::bytes(report::part(store, store::SECRET, 33));
     } else {
         report::byte_sum(report::part(store, store::SECRET, 26945));
     }
-    report::work_end(work);
 }
 
-// Key of the encryption scheme.
-pub fn encryption_key(line: [usize; 16], store: &mut [u8]) {
-    let mut public = [0u8; 26913];
-    let mut secret = [0u8; 26945];
-    let mut work = [7u32; 25081];
-    report::fill_bytes(&mut public, 1);
-    report::fill_bytes(&mut secret, 2);
-    let answer = encryption::key(
-        line[2],
-        report::part(store, store::SEED, line[4]),
-        report::front_mut(&mut public, line[5]),
-        report::front_mut(&mut secret, line[6]),
-        report::numbers_mut(&mut work, 0, line[7]),
-    );
-    store::keep(store, store::PUBLIC, &public);
-    store::keep(store, store::SECRET, &secret);
-    print_key(line, answer, store, &work);
+// The same of a ciphertext and the shared key.
+fn print_encapsulated(store: &[u8]) {
+    report::byte_sum(report::part(store, store::SEALED, 8353));
+    report::bytes(report::part(store, store::SHARED, 33));
 }
 
-// Key of the key exchange.
-pub fn exchange_key(line: [usize; 16], store: &mut [u8]) {
-    let mut public = [0u8; 26913];
-    let mut secret = [0u8; 26945];
-    let mut work = [7u32; 25081];
-    report::fill_bytes(&mut public, 1);
-    report::fill_bytes(&mut secret, 2);
-    let answer = exchange::key(
-        line[2],
-        report::part(store, store::SEED, line[4]),
-        report::front_mut(&mut public, line[5]),
-        report::front_mut(&mut secret, line[6]),
-        report::numbers_mut(&mut work, 0, line[7]),
-    );
-    store::keep(store, store::PUBLIC, &public);
-    store::keep(store, store::SECRET, &secret);
-    print_key(line, answer, store, &work);
-}
-
-// Prints the line of another call, or only its answer: the checksum of what was sealed, and a message or a shared key itself; one of them may be empty.
-fn print(
-    name: &[u8],
-    line: [usize; 16],
-    answer: Answer,
-    sealed: &[u8],
-    opened: &[u8],
-    work: &[u32],
-) {
-    if line[1] == 0 {
+// Prints the line of a call, or only its answer, or nothing.
+fn print(line: Command, answer: Answer, store: &[u8], work: &[u32]) {
+    if line.one == 0 {
         return;
     }
-    if line[1] == 2 {
+    if line.one == 2 {
         report::answer(answer);
         return;
     }
-    report::call(name, line[2], line[3]);
+    print_name(line.number);
+    report::number(line.two as u64);
+    report::number(line.three as u64);
     report::answer(answer);
-    if 0 < sealed.len() {
-        report::byte_sum(sealed);
-    }
-    if 0 < opened.len() {
-        report::bytes(opened);
-    }
+    print_made(line.number, store);
     report::work_end(work);
 }
 
-// Encrypt.
-pub fn encrypt(line: [usize; 16], store: &mut [u8]) {
-    let mut sealed = [0u8; 8353];
+// Makes a call and prints its line.
+pub fn call(line: Command, store: &mut [u8]) {
     let mut work = [7u32; 25081];
-    report::fill_bytes(&mut sealed, 3);
-    let answer = encryption::encrypt(
-        line[2],
-        report::part(store, store::PUBLIC, line[4]),
-        report::part(store, store::MESSAGE, line[5]),
-        report::part(store, store::SEALING, line[6]),
-        report::front_mut(&mut sealed, line[7]),
-        report::numbers_mut(&mut work, 0, line[8]),
-    );
-    store::keep(store, store::SEALED, &sealed);
-    let shown = report::front(&sealed, 8321);
-    print(
-        b"encrypt",
+    let answer = made(
         line,
-        answer,
-        shown,
-        report::front(store, 0),
-        &work,
+        store,
+        report::numbers_mut(&mut work, 0, work_length(line)),
     );
-}
-
-// Encapsulate.
-pub fn encapsulate(line: [usize; 16], store: &mut [u8]) {
-    let mut sealed = [0u8; 8353];
-    let mut shared = [0u8; 33];
-    let mut work = [7u32; 25081];
-    report::fill_bytes(&mut sealed, 3);
-    report::fill_bytes(&mut shared, 4);
-    let answer = exchange::encapsulate(
-        line[2],
-        report::part(store, store::PUBLIC, line[4]),
-        report::part(store, store::MESSAGE, line[5]),
-        report::front_mut(&mut sealed, line[6]),
-        report::front_mut(&mut shared, line[7]),
-        report::numbers_mut(&mut work, 0, line[8]),
-    );
-    store::keep(store, store::SEALED, &sealed);
-    print(b"encapsulate", line, answer, &sealed, &shared, &work);
-}
-
-// Decrypt.
-pub fn decrypt(line: [usize; 16], store: &mut [u8]) {
-    let mut opened = [0u8; 33];
-    let mut work = [7u32; 25081];
-    report::fill_bytes(&mut opened, 4);
-    let answer = encryption::decrypt(
-        line[2],
-        report::part(store, store::SECRET, line[4]),
-        report::part(store, store::SEALED, line[5]),
-        report::front_mut(&mut opened, line[6]),
-        report::numbers_mut(&mut work, 0, line[7]),
-    );
-    store::keep(store, store::OPENED, &opened);
-    print(
-        b"decrypt",
-        line,
-        answer,
-        report::front(store, 0),
-        &opened,
-        &work,
-    );
-}
-
-// Decapsulate.
-pub fn decapsulate(line: [usize; 16], store: &mut [u8]) {
-    let mut opened = [0u8; 33];
-    let mut work = [7u32; 25081];
-    report::fill_bytes(&mut opened, 5);
-    let answer = exchange::decapsulate(
-        line[2],
-        report::part(store, store::SECRET, line[4]),
-        report::part(store, store::SEALED, line[5]),
-        report::front_mut(&mut opened, line[6]),
-        report::numbers_mut(&mut work, 0, line[7]),
-    );
-    store::keep(store, store::OPENED, &opened);
-    print(
-        b"decapsulate",
-        line,
-        answer,
-        report::front(store, 0),
-        &opened,
-        &work,
-    );
+    print(line, answer, store, &work);
 }
