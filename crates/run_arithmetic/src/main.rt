@@ -1,8 +1,12 @@
 // Runs a script of the arithmetic layer: key, sealing and reading on numbers, the middle products and the transforms, whole and partial. Two stores hold
 // what the calls are given: residues and bits, and signed numbers.
 mod fills;
+mod names;
 mod open;
 mod vectors;
+
+use report::script;
+use report::script::Command;
 
 // Where the calls find polynomials a, a secret, a key, a message and the two parts of what was sealed.
 const A: usize = 0;
@@ -25,13 +29,16 @@ const R: usize = 10300;
 // How many numbers there are, which is past every place.
 const END: usize = 33800;
 
-// Runs one line of the script: its first number says what to do.
-fn step(line: [usize; 16], numbers: &mut [u32], signed: &mut [i32]) {
-    match line[0] {
-        0 | 1 | 2 | 3 => fills::step(line, numbers),
-        4 | 5 | 6 => fills::signed_step(line, signed),
-        7 | 8 | 9 | 10 | 11 | 17 | 18 => open::call(line, numbers, signed),
-        _ => vectors::step(line, numbers),
+// Runs one line of the script: its first number says what to do. A text and the operands of an open call are printed from its values.
+fn step(values: [usize; 16], line: Command, numbers: &mut [u32], signed: &mut [i32]) {
+    let number = line.number;
+    match number {
+        0 => script::text(values),
+        1..=3 => fills::step(line, numbers),
+        4..=6 => fills::signed_step(line, signed),
+        12..=15 => vectors::transform(line, numbers),
+        16 => vectors::correlation(line, numbers),
+        _ => open::call(values, line, numbers, signed),
     }
 }
 
@@ -39,12 +46,12 @@ fn step(line: [usize; 16], numbers: &mut [u32], signed: &mut [i32]) {
 fn run(numbers: &mut [u32], signed: &mut [i32]) {
     let mut left: usize = 1000000;
     while 0 < left {
-        let line = report::script::next_line();
+        let line = script::next_line();
         if line.is_end {
             return;
         }
         let values = line.values;
-        step(values, numbers, signed);
+        step(values, script::command_of(values), numbers, signed);
         left -= 1;
     }
 }

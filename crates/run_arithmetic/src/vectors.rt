@@ -2,6 +2,7 @@
 // and of the lengths is looked at first. A line has the set, the number of the transform, how many numbers of the vector count, and the lengths of its
 // tables and of the vector.
 use crate::fills;
+use report::script::Command;
 ghost use mathlib.Core.Path.{_≡_};
 ghost use mathlib.Core.Bool.{true};
 ghost use Prim.Native.Nat.{_+_, _≤_};
@@ -87,47 +88,37 @@ fn correlate(set: usize, i: usize, n: usize, tables: &mut [u32], x: &mut [u32], 
 }
 
 // The same of two vectors of the store, the first of which is copied.
-fn correlation(line: [usize; 16], numbers: &[u32]) {
+pub fn correlation(line: Command, numbers: &[u32]) {
     let mut tables = [0u32; 3605];
     let mut x = [0u32; 3328];
     fills::copy(&mut x, report::numbers(numbers, crate::A, 3328));
     correlate(
-        line[1],
-        line[2],
-        line[3],
-        report::numbers_mut(&mut tables, 0, line[4]),
-        report::numbers_mut(&mut x, 0, line[5]),
-        report::numbers(numbers, crate::B, line[5]),
+        line.one,
+        line.two,
+        line.three,
+        report::numbers_mut(&mut tables, 0, line.four),
+        report::numbers_mut(&mut x, 0, line.five),
+        report::numbers(numbers, crate::B, line.five),
     );
 }
 
 // One of the four transforms of a vector.
-fn one_way(line: [usize; 16], tables: &mut [u32], x: &mut [u32]) {
-    let set = line[1];
-    let i = line[2];
-    let n = line[3];
-    match line[0] {
-        12 => send(set, i, n, tables, x),
-        13 => send_inverse(set, i, n, tables, x),
-        14 => recover(set, i, tables, x),
-        _ => recover_inverse(set, i, tables, x),
+fn one_way(line: Command, tables: &mut [u32], x: &mut [u32]) {
+    let number = line.number;
+    match number {
+        12 => send(line.one, line.two, line.three, tables, x),
+        13 => send_inverse(line.one, line.two, line.three, tables, x),
+        14 => recover(line.one, line.two, tables, x),
+        _ => recover_inverse(line.one, line.two, tables, x),
     }
 }
 
 // The same of a vector of the store.
-fn transform(line: [usize; 16], numbers: &mut [u32]) {
+pub fn transform(line: Command, numbers: &mut [u32]) {
     let mut tables = [0u32; 3605];
     one_way(
         line,
-        report::numbers_mut(&mut tables, 0, line[4]),
-        report::numbers_mut(numbers, crate::A, line[5]),
+        report::numbers_mut(&mut tables, 0, line.four),
+        report::numbers_mut(numbers, crate::A, line.five),
     );
-}
-
-// A correlation or a transform.
-pub fn step(line: [usize; 16], numbers: &mut [u32]) {
-    match line[0] {
-        16 => correlation(line, numbers),
-        _ => transform(line, numbers),
-    }
 }

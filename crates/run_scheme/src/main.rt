@@ -10,38 +10,30 @@ mod whole;
 use report::script;
 use report::script::Command;
 
-// One command that prints or fills a part of the store.
-fn run_plain(line: Command, store: &mut [u8]) {
+// One command that prints, and leaves the store as it is.
+fn show(line: Command, store: &[u8]) {
     let number = line.number;
     match number {
-        1 | 2 => store::fill(line, report::part_mut(store, line.one, line.two)),
-        3 => store::repeat(line, store),
-        4 => store::flip(store, line.one, report::low_byte(line.two)),
+        14 => whole::seal_and_read(line, store),
+        15 => whole::share_a_key(line, store),
+        17 => inner::print_unpacked(line, store),
+        18 => sheets::print_sheet(line, store),
+        19 => sheets::print_bound(line.one),
         _ => store::print(number, report::part(store, line.one, line.two)),
     }
 }
 
-// One command that has no bytes of its own.
-fn run_command(line: Command, store: &mut [u8]) {
+// One line, whose bytes stand behind its command where it has some.
+fn run_line(values: [usize; 16], line: Command, store: &mut [u8]) {
     let number = line.number;
     match number {
-        8 | 9 | 10 | 11 | 12 | 13 => schemes::call(line, store),
-        14 => whole::seal_and_read(line, store),
-        15 => whole::share_a_key(line, store),
+        0 => store::put(values, report::part_mut(store, line.one, line.two)),
+        1..=2 => store::fill(line, report::part_mut(store, line.one, line.two)),
+        3 => store::repeat(line, store),
+        4 => store::flip(store, line.one, report::low_byte(line.two)),
+        8..=13 => schemes::call(line, store),
         16 => inner::open(line, store),
-        17 => inner::print_unpacked(line, store),
-        18 => sheets::print_sheet(line, store),
-        19 => sheets::print_bound(line.one),
-        _ => run_plain(line, store),
-    }
-}
-
-// One line.
-fn run_line(line: [usize; 16], store: &mut [u8]) {
-    if line[0] == 0 {
-        store::put(line, report::part_mut(store, line[1], line[2]));
-    } else {
-        run_command(script::command_of(line), store);
+        _ => show(line, store),
     }
 }
 
@@ -54,7 +46,7 @@ fn run(store: &mut [u8]) {
             return;
         }
         let values = line.values;
-        run_line(values, store);
+        run_line(values, script::command_of(values), store);
         left -= 1;
     }
 }

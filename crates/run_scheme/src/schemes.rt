@@ -21,7 +21,8 @@ fn make_key(
 }
 
 // The same with the seed of the store.
-fn key(line: Command, store: &mut [u8], work: &mut [u32]) -> Answer {
+fn key(line: Command, store: &mut [u8]) {
+    let mut work = [7u32; 25081];
     let mut public = patterns::key(1);
     let mut secret = patterns::key(2);
     let answer = make_key(
@@ -29,15 +30,16 @@ fn key(line: Command, store: &mut [u8], work: &mut [u32]) -> Answer {
         report::part(store, store::SEED, line.four),
         report::front_mut(&mut public, line.five),
         report::front_mut(&mut secret, line.six),
-        work,
+        report::numbers_mut(&mut work, 0, line.seven),
     );
     store::keep(store, store::PUBLIC, 26913, &public);
     store::keep(store, store::SECRET, 26945, &secret);
-    answer
+    print(line, answer, store, &work);
 }
 
 // Encrypt.
-fn encrypt(line: Command, store: &mut [u8], work: &mut [u32]) -> Answer {
+fn encrypt(line: Command, store: &mut [u8]) {
+    let mut work = [7u32; 25081];
     let mut sealed = patterns::sealed();
     let answer = encryption::encrypt(
         line.two,
@@ -45,14 +47,15 @@ fn encrypt(line: Command, store: &mut [u8], work: &mut [u32]) -> Answer {
         report::part(store, store::MESSAGE, line.five),
         report::part(store, store::SEALING, line.six),
         report::front_mut(&mut sealed, line.seven),
-        work,
+        report::numbers_mut(&mut work, 0, line.eight),
     );
     store::keep(store, store::SEALED, 8353, &sealed);
-    answer
+    print(line, answer, store, &work);
 }
 
 // Encapsulate.
-fn encapsulate(line: Command, store: &mut [u8], work: &mut [u32]) -> Answer {
+fn encapsulate(line: Command, store: &mut [u8]) {
+    let mut work = [7u32; 25081];
     let mut sealed = patterns::sealed();
     let mut shared = patterns::short(4);
     let answer = exchange::encapsulate(
@@ -61,11 +64,11 @@ fn encapsulate(line: Command, store: &mut [u8], work: &mut [u32]) -> Answer {
         report::part(store, store::MESSAGE, line.five),
         report::front_mut(&mut sealed, line.six),
         report::front_mut(&mut shared, line.seven),
-        work,
+        report::numbers_mut(&mut work, 0, line.eight),
     );
     store::keep(store, store::SEALED, 8353, &sealed);
     store::keep(store, store::SHARED, 33, &shared);
-    answer
+    print(line, answer, store, &work);
 }
 
 // Decrypt or decapsulate.
@@ -89,37 +92,18 @@ fn opened_start(number: usize) -> usize {
 }
 
 // Opens the ciphertext of the store with the secret key there.
-fn open(line: Command, store: &mut [u8], work: &mut [u32]) -> Answer {
+fn open(line: Command, store: &mut [u8]) {
+    let mut work = [7u32; 25081];
     let mut opened = patterns::short(opened_start(line.number));
     let answer = read(
         line,
         report::part(store, store::SECRET, line.four),
         report::part(store, store::SEALED, line.five),
         report::front_mut(&mut opened, line.six),
-        work,
+        report::numbers_mut(&mut work, 0, line.seven),
     );
     store::keep(store, store::OPENED, 33, &opened);
-    answer
-}
-
-// Makes a call.
-fn made(line: Command, store: &mut [u8], work: &mut [u32]) -> Answer {
-    let number = line.number;
-    match number {
-        8 | 9 => key(line, store, work),
-        10 => encrypt(line, store, work),
-        11 => encapsulate(line, store, work),
-        _ => open(line, store, work),
-    }
-}
-
-// The length of the work slice: a sealing has one slice more than a key and an opening.
-fn work_length(line: Command) -> usize {
-    let number = line.number;
-    match number {
-        10 | 11 => line.eight,
-        _ => line.seven,
-    }
+    print(line, answer, store, &work);
 }
 
 // Prints the name of a call.
@@ -176,13 +160,13 @@ fn print(line: Command, answer: Answer, store: &[u8], work: &[u32]) {
     report::work_end(work);
 }
 
-// Makes a call and prints its line.
+// Makes a call.
 pub fn call(line: Command, store: &mut [u8]) {
-    let mut work = [7u32; 25081];
-    let answer = made(
-        line,
-        store,
-        report::numbers_mut(&mut work, 0, work_length(line)),
-    );
-    print(line, answer, store, &work);
+    let number = line.number;
+    match number {
+        8..=9 => key(line, store),
+        10 => encrypt(line, store),
+        11 => encapsulate(line, store),
+        _ => open(line, store),
+    }
 }

@@ -9,12 +9,12 @@ use report::script::Command;
 fn print(
     line: Command,
     answer: Answer,
-    public: &[u8],
-    secret: &[u8],
-    sealed: &[u8],
-    sent: &[u8],
-    received: &[u8],
-    work: &[u32],
+    public: &[u8; 26945],
+    secret: &[u8; 26945],
+    sealed: &[u8; 8353],
+    sent: &[u8; 33],
+    received: &[u8; 33],
+    work: &[u32; 25081],
 ) {
     report::call(b"whole", line.one, line.two);
     report::answer(answer);

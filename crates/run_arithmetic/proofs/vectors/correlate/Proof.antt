@@ -7,20 +7,27 @@ use Rattle.run_arithmetic.proofs.vectors.correlate.Tie as tie
 
 settled-requires : tie.Need-settled-requires
 settled-requires c κs =
-    let ok = c .before .before .before .before .ready .ensures (c .before .before .before .if2 .taken) in
+    let first = c .before .before .before in
+    let ok = first .before .ready .ensures (first .if2 .taken) in
     let other = c .before .ready2 .ensures (c .if3 .taken) in
     omega (arith, ok .2 .inside, other .2 .size)
 
 load-tables-requires : tie.Need-load-tables-requires
-load-tables-requires c κs = let ok = c .before .before .before .before .before .before .ready .ensures (c .before .before .before .before .before .if2 .taken) in (ok .0, ok .1)
+load-tables-requires c κs =
+    let first = c .before .before .before .before .before in
+    let ok = first .before .ready .ensures (first .if2 .taken) in
+    (ok .0, ok .1)
 
 correlate-requires : tie.Need-correlate-requires
 correlate-requires c κs =
-    let ok = c .before .before .before .before .before .before .before .before .before .before .before .ready .ensures (c .before .before .before .before .before .before .before .before .before .before .if2 .taken) in
-    let other = c .before .before .before .before .before .before .before .before .ready2 .ensures (c .before .before .before .before .before .before .before .if3 .taken) in
+    let loaded = c .before .before .before .before in
+    let second = loaded .before .before .before in
+    let first = second .before .before .before in
+    let ok = first .before .ready .ensures (first .if2 .taken) in
+    let other = second .before .ready2 .ensures (second .if3 .taken) in
     let size = other .2 .size in
-    let settled = c .before .before .before .before .before .before .settled .ensures in
-    (ok .0, c .before .before .before .before .load-tables .ensures, ok .2, omega arith, rw size at (other .2), omega (arith, settled, size))
+    let settled = loaded .before .before .settled .ensures in
+    (ok .0, loaded .load-tables .ensures, ok .2, omega arith, rw size at (other .2), omega (arith, settled, size))
 
 pub correlate-spec : {M : Type 1} → statement M
 correlate-spec =

@@ -10,9 +10,11 @@ load-inverse-tables-requires c κs = let ok = c .before .before .ready .ensures 
 
 recover-first-requires : tie.Need-recover-first-requires
 recover-first-requires c κs =
-    let ok = c .before .before .before .before .before .before .before .ready .ensures (c .before .before .before .before .before .before .if1 .taken) in
+    let loaded = c .before .before .before .before in
+    let test = loaded .before .before in
+    let ok = test .before .ready .ensures (test .if1 .taken) in
     let size = ok .2 .size in
-    (ok .0, c .before .before .before .before .load-inverse-tables .ensures, rw size at (ok .2), omega (arith, size))
+    (ok .0, loaded .load-inverse-tables .ensures, rw size at (ok .2), omega (arith, size))
 
 pub recover-spec : {M : Type 1} → statement M
 recover-spec =
