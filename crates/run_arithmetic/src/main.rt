@@ -26,19 +26,21 @@ const E: usize = 0;
 
 const R: usize = 10300;
 
-// How many numbers there are, which is past every place.
+// How many numbers there are.
 const END: usize = 33800;
 
 // Runs one line of the script: its first number says what to do. A text and the operands of an open call are printed from its values.
 fn step(values: [usize; 16], line: Command, numbers: &mut [u32], signed: &mut [i32]) {
     let number = line.number;
+    names::print(values, number);
     match number {
         0 => script::text(values),
         1..=3 => fills::step(line, numbers),
         4..=6 => fills::signed_step(line, signed),
+        9 => open::key(line, numbers, signed),
+        10 => open::sealing(line, numbers, signed),
         12..=15 => vectors::transform(line, numbers),
-        16 => vectors::correlation(line, numbers),
-        _ => open::call(values, line, numbers, signed),
+        _ => open::show(line, numbers),
     }
 }
 

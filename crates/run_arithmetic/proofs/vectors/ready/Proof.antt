@@ -1,6 +1,7 @@
 -- Every number before the first that is none is a residue.
 -- Assumes nothing.
 use mathlib.Core.Path.{_≡_, ap}
+use mathlib.Core.Bool.{true, false}
 use Prim.Native.Nat.{ℕ}
 use lib.ListN.{getD}
 use native.Mathlib.Omega.{arith}
@@ -12,14 +13,18 @@ use borrow.Author.Needs.{needs}
 use Rattle.run_arithmetic.proofs.vectors.ready.Statement.{statement}
 use Rattle.run_arithmetic.proofs.vectors.ready.Tie as tie
 
+-- false is not true
+never : false ≡ true → ⊥
+never e = let z : _≡_ {A = ℕ} 0 1 = cc in omega arith
+
 returns : tie.Need-returns
-returns c e = let z : _≡_ {A = ℕ} 0 1 = cc in absurd (omega arith)
+returns c e = absurd (never e)
 
 returns-2 : tie.Need-returns-2
-returns-2 c e = let z : _≡_ {A = ℕ} 0 1 = cc in absurd (omega arith)
+returns-2 c e = absurd (never e)
 
 returns-3 : tie.Need-returns-3
-returns-3 c e = let z : _≡_ {A = ℕ} 0 1 = cc in absurd (omega arith)
+returns-3 c e = absurd (never e)
 
 returns-4 : tie.Need-returns-4
 returns-4 c e =
