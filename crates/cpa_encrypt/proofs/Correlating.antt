@@ -1,12 +1,12 @@
 -- The second part of a ciphertext: the products with the stored b_i added up, the correlations they recover to, and the message.
 -- Assumes nothing.
 use mathlib.Core.Path.{_≡_, refl, sym, ap, _∙_}
-use mathlib.Core.List.{List, _++_}
-use Prim.Native.Nat.{ℕ, zero, suc, _+_, _-_, _*_, _%_, _≤_, _<_}
-use native.Mathlib.Nat.{sub-zero, mod-lt}
+use mathlib.Core.List.{List}
+use Prim.Native.Nat.{ℕ, _+_, _-_, _*_, _%_, _≤_, _<_}
+use native.Mathlib.Nat.{mod-lt}
 use native.Mathlib.Omega.{arith}
 use lib.ListN.{length, take, drop, replicate}
-use lib.Seq.{getD-take, take-at}
+use lib.Seq.{getD-take}
 use Rattle.maths.specs.Vector.{at, tabulate, AllBelow}
 use Rattle.maths.specs.Sum.{sum}
 use Rattle.maths.specs.Product.{correlation}
@@ -26,24 +26,12 @@ use Rattle.packing.specs.Message.{messageBits}
 use Rattle.montgomery.specs.Scaled.{Modulus}
 use Rattle.ntt_products.specs.Stored.{sent, unscaled, recoveredInverse, accumulated, totals, summedCorrelations}
 use Rattle.ntt_products.specs.Placed.{SentScaled}
-use Rattle.ntt_products.proofs.Laws.{accumulated-length, Stored, recoveredInverse-below, addends, totals-none, totals-more, totals-placed}
+use Rattle.ntt_products.proofs.Laws.{accumulated-length, Stored, addends, totals-none, totals-more, totals-placed}
 use Rattle.ntt_products.proofs.Laws.{totals-recoveredInverse, recoveredInverse-take}
 use Rattle.scheme.specs.Encryption.{secondNumbers, secondBytes}
 use Rattle.cpa_encrypt.specs.Parts.{Multipliers, KeyResidues, messageAdded, secondSums, packedSecond}
-use Rattle.calls.proofs.Parts.{front-length}
 use Rattle.sets.proofs.Transforms.{first-size}
 use Rattle.cpa_encrypt.proofs.Multiplied.{residue-digits, vector-within, vector-room}
-
--- a part that begins at the first place
-pub region-front : (xs ys : List ℕ) (n m : ℕ) → n ≡ m → take m xs ≡ ys → region xs 0 n ≡ ys
-unfolding region
-region-front xs ys n m e front = rw e front
-
--- a bit times a residue is a residue
-pub bit-times : (half bit q : ℕ) → bit < 2 → half < q → half * bit < q
-bit-times half zero q b h = omega arith
-bit-times half (suc zero) q b h = omega arith
-bit-times half (suc (suc bit)) q b h = absurd (omega arith)
 
 -- remainders are digits of a set's width
 pub reduced-digits : (p : Parameters) → Rules p → (xs : List ℕ) (n : ℕ) (f : ℕ → ℕ) → xs ≡ tabulate n (λ j. f j % p .q) → Digit (p .width) xs
@@ -71,27 +59,8 @@ module _ (set : ℕ) (low : IsSet set) where
   key-room p e i h = rw e (record { within = vector-within (setOf set .d1) i (setOf set .t) h; few = rules set low .most-public })
 
   -- d numbers fit the first transform
-  pub message-fits : setOf set .d ≤ transformSize (setOf set) 1
+  message-fits : setOf set .d ≤ transformSize (setOf set) 1
   message-fits = omega (arith, first-size (setOf set), rules set low .holds1)
-
-  module _ (p : Parameters) (e : p ≡ setOf set) where
-    -- the first d places of a slice that has those of the first transform
-    pub message-part : (xs : List ℕ) → length xs ≡ transformSize (setOf set) 1 → length (take (p .d - 0) (drop 0 xs)) ≡ setOf set .d
-    message-part xs size =
-        let same : p .d ≡ setOf set .d = ap (λ (r : Parameters). r .d) e in
-        front-length xs (p .d) (omega (arith, message-fits)) ∙ same
-
-    -- where these are recovered, they are residues
-    pub message-below : (total ys : List ℕ) → take (p .d) total ≡ recoveredInverse (setOf set) 1 (p .d) ys
-        → AllBelow (setOf set .q) (setOf set .d) (take (p .d - 0) (drop 0 total))
-    message-below total ys made = rw (sub-zero, made, e) (recoveredInverse-below set low 1 (setOf set .d) ys message-fits)
-
-    -- the message added, as the code adds it
-    pub message-added : (numbers bits message result : List ℕ) (half count : ℕ) → length numbers ≡ setOf set .d → bits ≡ messageBits count message
-        → count ≡ setOf set .d → half ≡ halfModulus p
-        → result ≡ tabulate (length numbers) (λ j. (at numbers j + half * at bits j) % p .q) → result ≡ messageAdded (setOf set) numbers message
-    unfolding messageAdded
-    message-added numbers bits message result half count size bits-is counted half-is made = rw (made, size, bits-is, counted, half-is, e)
 
   module _ (numbers ms : List ℕ) where
     -- the part of b̂_i
@@ -166,11 +135,6 @@ module _ (set : ℕ) (low : IsSet set) where
         (λ j. vector (setOf set .d1) numbers j)
     correlating-all {i = i} a h = let all : i ≡ setOf set .t = omega arith in rw all at (a .sum)
 
-    -- c2' has d numbers
-    sums-length : (message : List ℕ) → length (secondSums (setOf set) numbers ms message) ≡ setOf set .d
-    unfolding secondSums secondNumbers
-    sums-length message = tabulate-length (setOf set .d) _
-
     module _ (p : Parameters) (e : p ≡ setOf set) (message sums : List ℕ) where
       -- which are digits of the set's width
       pub second-digits : sums ≡ secondSums (setOf set) numbers ms message → Digit (p .width) sums
@@ -233,14 +197,3 @@ module _ (set : ℕ) (low : IsSet set) where
           tabulate-cong (setOf set .d) _ _
           (λ j h. rw (sums-at j h)
           (mod-add (mod-remainder (setOf set .q) _) (mod-refl (halfModulus (setOf set) * at (messageBits (setOf set .d) message) j)) .same))
-
-      -- as they stand at the front of the total
-      pub second-front : (p : Parameters) → p ≡ setOf set → (message total front : List ℕ)
-          → take (p .d) total ≡ recoveredInverse (setOf set) 1 (p .d)
-          (totals (setOf set .q) (transformSize (setOf set) 1) (setOf set .t) (λ i. sent (setOf set) 1 (vector (setOf set .k + 1) ms i))
-          (λ i. vector (setOf set .d1) numbers i))
-          → front ≡ messageAdded (setOf set) (take (p .d - 0) (drop 0 total)) message
-          → take (setOf set .d) (take 0 total ++ (front ++ drop (p .d - 0) (drop 0 total))) ≡ secondSums (setOf set) numbers ms message
-      second-front p e message total front made added =
-          let same : front ≡ secondSums (setOf set) numbers ms message = added ∙ rw (sub-zero, made, e) (second-sums message) in
-          take-at front (drop (p .d - 0) (drop 0 total)) (setOf set .d) (ap length same ∙ sums-length message) ∙ same

@@ -1,15 +1,15 @@
 // The second part of a ciphertext: c2, the sum of the correlations of the multiplier polynomials with the b_i, and half the modulus times the
 // message (003, algorithm 2, lines 8 to 10).
 ghost use mathlib.Core.Path.{_≡_};
-ghost use Prim.Native.Nat.{_+_, _*_, _%_, _^_, _≤_, _<_};
-ghost use lib.ListN.{length, take, replicate};
-ghost use Rattle.maths.specs.Vector.{at, tabulate, AllBelow};
+ghost use mathlib.Core.List.{List};
+ghost use Prim.Native.Nat.{ℕ, _+_, _*_, _≤_};
+ghost use lib.ListN.{length, replicate};
+ghost use Rattle.maths.specs.Vector.{AllBelow};
 ghost use Rattle.calls.specs.Region.{vector};
 ghost use Rattle.sets.specs.Table.{setOf, IsSet};
 ghost use Rattle.sets.specs.Derived.{transformSize};
-ghost use Rattle.packing.specs.Digits.{Digit};
-ghost use Rattle.ntt_products.specs.Stored.{sent, totals};
-ghost use Rattle.ntt_products.specs.Placed.{tableLength, RootTables};
+ghost use Rattle.ntt_products.specs.Stored.{sent, recoveredInverse, totals};
+ghost use Rattle.ntt_products.specs.Placed.{tableLength, RootTables, RowsRecovered};
 ghost use Rattle.scheme.specs.Encryption.{secondBytes};
 ghost use Rattle.cpa_encrypt.specs.Parts.{Multipliers, KeyResidues, messageAdded, secondSums, packedSecond};
 
@@ -40,38 +40,11 @@ fn sum_stored(
     }
 }
 
-// Adds `half` to each number whose bit is set.
-fn add_bits(numbers: &mut [u32], bits: &[u32], half: u32, q: u32)
-    requires { ⌜ (length (now bits) ≡ length (now numbers)) × AllBelow q (length (now numbers)) (now numbers) × Digit 1 (now bits) × (half < q)
-        × (q < 2 ^ 24) ⌝ }
-    ensures { λ _. ⌜ now (numbers .exit)
-        ≡ tabulate (length (now (numbers .entry))) (λ j. (at (now (numbers .entry)) j + half * at (now (bits .entry)) j) % q) ⌝ }
-{
-    let mut j: usize = 0;
-    while j < numbers.len() {
-        let shift = half * bits[j];
-        numbers[j] = residues::add(numbers[j], shift, q);
-        j += 1;
-    }
-}
-
-// Adds the message to the sums of correlations; `bits` is lent for the bits of the message.
-fn add_message(set: usize, message: &[u8], numbers: &mut [u32], bits: &mut [u32])
-    requires { ⌜ (1 ≤ set) × IsSet set × (length (now numbers) ≡ setOf set .d) × AllBelow (setOf set .q) (setOf set .d) (now numbers)
-        × (length (now bits) ≡ setOf set .d) ⌝ }
-    ensures { λ _. ⌜ now (numbers .exit) ≡ messageAdded (setOf set) (now (numbers .entry)) (now (message .entry)) ⌝ }
-{
-    let p = sets::parameters_of(set);
-    packing::bits_of(message, bits);
-    add_bits(numbers, bits, sets::derived::half_modulus(p), p.q);
-}
-
-// c2 before it is packed, in the first numbers of `total`; the tables of the root and the vectors on the way are in lent slices.
-fn sums_with_buffers(
+// The rows of the inverse transform of the summed products of the multiplier polynomials and the b_i, in `total`; `tables` is lent for those of the root.
+fn sum_rows(
     set: usize,
     numbers: &[u32],
     multipliers: &[u32],
-    message: &[u8],
     tables: &mut [u32],
     total: &mut [u32],
     x: &mut [u32],
@@ -79,15 +52,29 @@ fn sums_with_buffers(
     requires { ⌜ (1 ≤ set) × IsSet set × KeyResidues (setOf set) (now numbers) × Multipliers (setOf set) (now multipliers)
         × (length (now tables) ≡ tableLength (setOf set) 1) × (length (now total) ≡ transformSize (setOf set) 1)
         × (length (now x) ≡ transformSize (setOf set) 1) ⌝ }
-    ensures { λ _. ⌜ take (setOf set .d) (now (total .exit))
-        ≡ secondSums (setOf set) (now (numbers .entry)) (now (multipliers .entry)) (now (message .entry)) ⌝ }
+    ensures { λ _. ⌜ RowsRecovered (setOf set) 1
+        (totals (setOf set .q) (transformSize (setOf set) 1) (setOf set .t) (λ i. sent (setOf set) 1 (vector (setOf set .k + 1) (now (multipliers .entry)) i))
+        (λ i. vector (setOf set .d1) (now (numbers .entry)) i)) (now (total .exit)) ⌝ }
 {
-    let d = sets::parameters_of(set).d;
     ntt_products::load_tables(set, 1, tables);
     calls::clear(total);
     sum_stored(set, numbers, multipliers, tables, total, x);
-    ntt_products::recover_first_inverse(set, 1, tables, total, d);
-    add_message(set, message, &mut total[0..d], &mut x[0..d]);
+    ntt_products::recover_rows(set, 1, tables, total);
+}
+
+// c2 before it is packed, from these rows, in one walk: each place is the sum of a column, to which its message bit is added.
+fn walk(set: usize, rows: &[u32], message: &[u8], out: &mut [u32])
+    requires { ⌜ (1 ≤ set) × IsSet set × (length (now rows) ≡ transformSize (setOf set) 1)
+        × AllBelow (2 * setOf set .q) (transformSize (setOf set) 1) (now rows) × (length (now out) ≡ setOf set .d) ⌝ }
+    ensures { λ _. ⌜ ((sums : List ℕ) → RowsRecovered (setOf set) 1 sums (now (rows .entry))
+        → now (out .exit) ≡ messageAdded (setOf set) (recoveredInverse (setOf set) 1 (setOf set .d) sums) (now (message .entry))) ⌝ }
+{
+    let p = sets::parameters_of(set);
+    let by = ntt_products::row_scale_of(p, 1);
+    let half = sets::derived::half_modulus(p);
+    let count = ntt_products::rows_of(p, 1);
+    let k = montgomery::negated_inverse(p.q);
+    c2_walk::fill(out, rows, message, by, half, count, p.q, k);
 }
 
 // c2 before it is packed, with room on the way in lent slices.
@@ -106,8 +93,8 @@ fn numbers_with_buffers(
         × (length (now x) ≡ transformSize (setOf set) 1) ⌝ }
     ensures { λ _. ⌜ now (out .exit) ≡ secondSums (setOf set) (now (numbers .entry)) (now (multipliers .entry)) (now (message .entry)) ⌝ }
 {
-    sums_with_buffers(set, numbers, multipliers, message, tables, total, x);
-    calls::copy_out(out, total, 0);
+    sum_rows(set, numbers, multipliers, tables, total, x);
+    walk(set, total, message, out);
 }
 
 // Writes c2 before it is packed.

@@ -1,9 +1,9 @@
 -- Columns, twist and rows together are the transform in the order of 003, and rows, twist and columns its inverse (003 section 3.2.2).
 -- Assumes nothing.
-use mathlib.Core.Path.{_≡_, refl, sym, ap, _∙_}
+use mathlib.Core.Path.{_≡_, sym, ap, _∙_}
 use mathlib.Core.List.{List, _++_}
 use Prim.Native.Nat.{ℕ, _+_, _-_, _*_, _%_, _^_, _≤_, _<_}
-use native.Mathlib.Nat.{mod-lt, mul-comm, mul-assoc}
+use native.Mathlib.Nat.{mod-lt, mul-comm, mul-one, zero-mul, pow-zero}
 use native.Mathlib.Omega.{arith}
 use lib.Arith.{digits-lt}
 use lib.ListN.{length, take, drop, length-take, length-drop}
@@ -12,21 +12,22 @@ use Rattle.maths.specs.Vector.{at, tabulate, AllBelow}
 use Rattle.maths.specs.Congruence.{Mod}
 use Rattle.maths.specs.Transform as maths
 use Rattle.maths.specs.Transform.{transformAt, send, recover}
+use Rattle.maths.proofs.Sum.{sum-cong}
 use Rattle.maths.proofs.Vector.{tabulate-length, tabulate-at, tabulate-cong}
-use Rattle.maths.proofs.Congruence.{mod-refl, mod-eq, mod-sym, mod-trans, mod-mul, mod-sum, mod-remainder}
+use Rattle.maths.proofs.Congruence.{mod-refl, mod-eq, mod-trans, mod-mul, mod-sum, mod-remainder}
 use Rattle.maths.proofs.Power.{pow-mul}
 use Rattle.maths.proofs.Split.{power-round}
 use Rattle.maths.proofs.Convolution.{transform-mod}
 use Rattle.maths.proofs.Transform.{transform-scale, send-length, send-row, send-columns-rows, recover-length, recover-at, recover-rows-columns}
 use Rattle.calls.specs.Region.{region}
-use Rattle.calls.proofs.Region.{region-length, region-entry}
+use Rattle.calls.proofs.Region.{region-entry}
 use Rattle.montgomery.specs.Scaled.{unscale, Modulus}
 use Rattle.montgomery.proofs.Laws.{unscale-twice, unscale-twice-one}
 use Rattle.ntt_tables.specs.Tables.{Ready, Tables}
 use Rattle.ntt_columns.specs.Columns as columns
 use Rattle.ntt_columns.specs.Columns.{columnSum, ColumnsReady, Columns}
-use Rattle.ntt.specs.Rows.{ForwardRows, InverseRows}
-use Rattle.ntt.proofs.Places.{row-end, by-rows, equal-by-rows}
+use Rattle.ntt.specs.Rows.{ForwardRows, InverseRows, firstRowAt}
+use Rattle.ntt.proofs.Places.{by-rows, equal-by-rows}
 
 -- the rest of a list, as a part that is lent
 pub rest : (xs : List ℕ) (a : ℕ) → take (length xs - a) (drop a xs) ≡ drop a xs
@@ -114,9 +115,7 @@ module _ {q δ w : ℕ} {tables : List ℕ} (ready : Ready q δ tables) (made : 
         (transform-mod 256 (w ^ δ) _ _ c (λ n l. forward-twist r n h l)) .same
         ∙ sym (send-columns-rows q 256 δ w m (take (m * 256) x) r c (made .whole) fits short h k))
 
-  module _ {by : ℕ} (e m : ℕ) (fits : m ≤ δ) (scale : Mod q by (e * 2 ^ 64)) {x y z front : List ℕ} (rows : InverseRows q δ tables x y)
-      (columns : Columns q δ m δ (drop (δ * 256 + 264) tables) y z) (settled : front ≡ tabulate (m * 256) (λ i. at z i * unscale q by % q))
-      (front-size : length front ≡ m * 256) where
+  module _ {by : ℕ} (e : ℕ) (scale : Mod q by (e * 2 ^ 64)) {x y : List ℕ} (rows : InverseRows q δ tables x y) where
     -- a number of the rows, after the twist, with the factor at the end
     inverse-row : (n c : ℕ) → n < δ → c < 256
         → Mod q (unscale q by * at y (n * 256 + c)) (e * (w ^ (n * c) * transformAt 256 (w ^ δ) (λ j. at x (n * 256 + j)) c))
@@ -138,18 +137,33 @@ module _ {q δ w : ℕ} {tables : List ℕ} (ready : Ready q δ tables) (made : 
         reorder : (a b c : ℕ) → a * b * c ≡ b * (a * c)
         reorder a b c = omega arith
 
-    -- the rows, the twist and the columns recover the first m rows of what was sent
-    pub recovered : front ≡ recover q 256 δ w e (m * 256) x
-    recovered =
-        equal-by-rows 256 m front _ front-size (recover-length q 256 δ w e (m * 256) x)
-        (λ r c h k.
-        let inside : r * 256 + c < m * 256 = digits-lt h k in
-        ap (λ (l : List ℕ). at l (r * 256 + c)) settled ∙ tabulate-at (m * 256) _ (r * 256 + c) inside
-        ∙ mod-trans (mod-eq (mul-comm _ (unscale q by)))
-        (mod-trans (mod-mul (mod-refl (unscale q by)) (mod-trans (columns .values r c h k) (column-value δ _ r)))
-        (mod-trans (mod-eq (sym (transform-scale δ (w ^ 256) (unscale q by) _ r)))
-        (mod-trans (transform-mod δ (w ^ 256) _ _ r (λ n l. inverse-row n c l k)) (mod-eq (transform-scale δ (w ^ 256) e _ r))))) .same
-        ∙ sym (recover-rows-columns q 256 δ w e (m * 256) x r c (made .whole) (omega arith) k inside))
+    -- value r of column c, with the factor at the end, is the number recovered at its place
+    recovered-at : (l r c : ℕ) → r < δ → c < 256 → r * 256 + c < l
+        → transformAt δ (w ^ 256) (λ n. at y (n * 256 + c)) r * unscale q by % q ≡ at (recover q 256 δ w e l x) (r * 256 + c)
+    recovered-at l r c h k inside =
+        mod-trans (mod-eq (mul-comm _ (unscale q by) ∙ sym (transform-scale δ (w ^ 256) (unscale q by) _ r)))
+        (mod-trans (transform-mod δ (w ^ 256) _ _ r (λ n b. inverse-row n c b k)) (mod-eq (transform-scale δ (w ^ 256) e _ r))) .same
+        ∙ sym (recover-rows-columns q 256 δ w e l x r c (made .whole) h k inside)
+
+    -- the sums of the columns recover the first row
+    pub first-recovered : (l c : ℕ) → c < 256 → c < l → firstRowAt q by δ y c ≡ at (recover q 256 δ w e l x) c
+    unfolding firstRowAt maths.transformAt
+    first-recovered l c k inside =
+        let place : 0 * 256 + c ≡ c = omega arith in
+        ap (λ (s : ℕ). s * unscale q by % q) (sum-cong δ _ _ (λ n h. rw (zero-mul, pow-zero) (sym (mul-one (at y (n * 256 + c))))))
+        ∙ rw place at (recovered-at l 0 c (ready .some-rows) k (rw place inside))
+
+    module _ (m : ℕ) (fits : m ≤ δ) {z front : List ℕ} (columns : Columns q δ m δ (drop (δ * 256 + 264) tables) y z)
+        (settled : front ≡ tabulate (m * 256) (λ i. at z i * unscale q by % q)) (front-size : length front ≡ m * 256) where
+      -- the rows, the twist and the columns recover the first m rows of what was sent
+      pub recovered : front ≡ recover q 256 δ w e (m * 256) x
+      recovered =
+          equal-by-rows 256 m front _ front-size (recover-length q 256 δ w e (m * 256) x)
+          (λ r c h k.
+          let inside : r * 256 + c < m * 256 = digits-lt h k in
+          ap (λ (l : List ℕ). at l (r * 256 + c)) settled ∙ tabulate-at (m * 256) _ (r * 256 + c) inside
+          ∙ mod-mul (mod-trans (columns .values r c h k) (column-value δ _ r)) (mod-refl (unscale q by)) .same
+          ∙ recovered-at (m * 256) r c (omega arith) k inside)
 
 -- the numbers of a vector that is sent are below q
 pub send-below : (q ρ δ w : ℕ) (xs : List ℕ) → 0 < q → AllBelow q (δ * ρ) (send q ρ δ w xs)

@@ -1,14 +1,16 @@
 // The number theoretic transform of δ rows of 256 numbers, forward and inverse, in place, by columns, twist and rows (003 section 3.2.2, algorithms 36
 // and 37), for odd moduli below 2^24. The numbers between the steps are below small multiples of q; what comes out are residues.
 ghost use mathlib.Core.Path.{_≡_};
-ghost use Prim.Native.Nat.{ℕ, _*_, _^_, _≤_, _<_};
+ghost use Prim.Native.Nat.{ℕ, _+_, _*_, _^_, _≤_, _<_};
 ghost use lib.ListN.{length, take};
-ghost use Rattle.maths.specs.Vector.{AllBelow};
+ghost use Rattle.maths.specs.Vector.{at, AllBelow};
+ghost use Rattle.maths.specs.Sum.{sum};
 ghost use Rattle.maths.specs.Congruence.{Mod};
 ghost use Rattle.maths.specs.Transform.{send, recover};
 ghost use Rattle.calls.specs.Region.{region};
+ghost use Rattle.montgomery.specs.Scaled.{Modulus};
 ghost use Rattle.ntt_tables.specs.Tables.{Ready, Tables};
-ghost use Rattle.ntt.specs.Rows.{RowsReady, RowReplaced, ForwardAt, InverseAt, ForwardRows, InverseRows};
+ghost use Rattle.ntt.specs.Rows.{RowsReady, RowReplaced, ForwardAt, InverseAt, ForwardRows, InverseRows, firstRowAt};
 
 // Twists and transforms row `r`, in place, to residues, each times the number that `by` is the scaled form of.
 fn forward_row_at(x: &mut [u32], tables: &[u32], by: u32, r: usize, rows: usize, q: u32, k: u32)
@@ -60,7 +62,7 @@ fn inverse_row_at(x: &mut [u32], tables: &[u32], r: usize, rows: usize, q: u32, 
 }
 
 // Transforms and twists each row.
-fn inverse_rows(x: &mut [u32], tables: &[u32], rows: usize, q: u32, k: u32)
+pub fn inverse_rows(x: &mut [u32], tables: &[u32], rows: usize, q: u32, k: u32)
     requires { ⌜ RowsReady q k rows (now tables) (now x) × AllBelow (2 * q) (rows * 256) (now x) ⌝ }
     ensures { λ _. ⌜ InverseRows q rows (now (tables .entry)) (now (x .entry)) (now (x .exit)) ⌝ }
 {
@@ -97,4 +99,27 @@ pub fn inverse(x: &mut [u32], tables: &[u32], by: u32, m: usize, rows: usize, q:
     inverse_rows(x, tables, rows, q, k);
     ntt_columns::columns(x, &tables[columns..], rows, m, rows, q, k);
     ntt_rows::settle(&mut x[0..end], by, q, k);
+}
+
+// The sum of the numbers of column `c`.
+fn column_total(x: &[u32], c: usize, rows: usize) -> u32
+    requires { ⌜ (c < 256) × (rows ≤ 16) × (length (now x) ≡ rows * 256) × AllBelow (2 ^ 25) (rows * 256) (now x) ⌝ }
+    ensures { λ r. ⌜ r ≡ sum rows (λ n. at (now (x .entry)) (n * 256 + c)) ⌝ }
+{
+    let mut total: u32 = 0;
+    let mut n: usize = 0;
+    while n < rows {
+        total += x[n * 256 + c];
+        n += 1;
+    }
+    total
+}
+
+// Place `c` of the first row of what a stored vector was made from, out of its rows as `inverse_rows` leaves them: what `inverse` writes there.
+pub fn first_row_place(x: &[u32], c: usize, by: u32, rows: usize, q: u32, k: u32) -> u32
+    requires { ⌜ Modulus q k × (by < q) × (c < 256) × (rows ≤ 16) × (length (now x) ≡ rows * 256) × AllBelow (2 * q) (rows * 256) (now x) ⌝ }
+    ensures { λ r. ⌜ r ≡ firstRowAt q by rows (now (x .entry)) c ⌝ }
+{
+    let total = column_total(x, c, rows);
+    residues::reduce_once(montgomery::product(total, by, q, k), q)
 }

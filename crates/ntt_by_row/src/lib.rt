@@ -77,7 +77,7 @@ pub fn forward(x: &mut [u32], tables: &[u32], n: usize, rows: usize, row: usize,
 }
 
 // The scale of an inverse transform: e, with what the twist by powers that are not in scaled form asks.
-fn scaled_twice(e: u32, q: u32) -> u32
+pub fn scaled_twice(e: u32, q: u32) -> u32
     requires { ⌜ Odd q × (e < q) ⌝ }
     ensures { λ r. ⌜ r ≡ e * (2 ^ 64 % q) % q ⌝ }
 {

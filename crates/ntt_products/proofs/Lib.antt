@@ -8,4 +8,5 @@ pub mod Sums
 pub mod Front
 pub mod SentScaled
 pub mod Room
+pub mod RowsBack
 pub mod Laws

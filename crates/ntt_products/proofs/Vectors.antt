@@ -67,10 +67,6 @@ module _ (set : ℕ) (low : IsSet set) (i : ℕ) where
   recovered-placed xs = recover-stored _ _ xs
 
   -- the first m of the numbers that are recovered are residues
-  pub recoveredInverse-below : (m : ℕ) (xs : List ℕ) → m ≤ transformSize (setOf set) i → AllBelow (setOf set .q) m (recoveredInverse (setOf set) i m xs)
-  unfolding recoveredInverse
-  recoveredInverse-below m xs fits = recover-below _ _ _ _ _ m xs some-residue (rw (size-rows set low i) fits)
-
   pub recovered-below : (m : ℕ) (xs : List ℕ) → m ≤ transformSize (setOf set) i → AllBelow (setOf set .q) m (recovered (setOf set) i m xs)
   unfolding recovered
   recovered-below m xs fits = recover-below _ _ _ _ _ m xs some-residue (rw (size-rows set low i) fits)

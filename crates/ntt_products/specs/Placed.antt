@@ -2,13 +2,14 @@
 -- Assumes nothing.
 use mathlib.Core.Path.{_≡_}
 use mathlib.Core.List.{List}
-use Prim.Native.Nat.{ℕ, _+_, _≤_}
+use Prim.Native.Nat.{ℕ, _+_, _*_, _≤_, _<_}
 use lib.ListN.{length}
-use Rattle.maths.specs.Vector.{AllBelow}
+use Rattle.maths.specs.Vector.{at, AllBelow}
 use Rattle.sets.specs.declared.Parameters.{Parameters}
 use Rattle.sets.specs.Derived.{transformSize, transformRoot}
+use Rattle.ntt.specs.Rows.{firstRowAt}
 use Rattle.ntt_by_row.specs.Lent.{Lent, TablesFor}
-use Rattle.ntt_products.specs.Stored.{rowCount, rootInverse, sent, unscaled}
+use Rattle.ntt_products.specs.Stored.{rowCount, rootInverse, rowScale, sent, unscaled, recoveredInverse}
 
 -- xs has the places of transform number i, and its first n numbers are residues
 pub record Placed (p : Parameters) (i n : ℕ) (xs : List ℕ) : Type 0 where
@@ -41,3 +42,9 @@ pub record RootTables (p : Parameters) (i : ℕ) (tables : List ℕ) : Type 0 wh
 pub record InverseTables (p : Parameters) (i : ℕ) (tables : List ℕ) : Type 0 where
   pub lent : SetLent p i tables
   pub root : SetTables p i (rootInverse p i) tables
+
+-- new has the rows of an inverse transform of old, which is stored with the inverse of root number i: the sums of its columns recover the first row
+pub record RowsRecovered (p : Parameters) (i : ℕ) (old new : List ℕ) : Type 0 where
+  pub size : length new ≡ transformSize p i
+  pub below : AllBelow (2 * p .q) (transformSize p i) new
+  pub first : (m j : ℕ) → j < m → m ≤ p .row → firstRowAt (p .q) (rowScale p i) (rowCount p i) new j ≡ at (recoveredInverse p i m old) j

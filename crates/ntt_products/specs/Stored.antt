@@ -2,7 +2,7 @@
 -- Assumes nothing.
 use mathlib.Core.Path.{_≡_, refl}
 use mathlib.Core.List.{List, [], _∷_, map}
-use Prim.Native.Nat.{ℕ, _+_, _*_, _/_, _%_}
+use Prim.Native.Nat.{ℕ, _+_, _*_, _/_, _%_, _^_}
 use lib.ListN.{length}
 use Rattle.maths.specs.Vector as vectors
 use Rattle.maths.specs.Vector.{at, tabulate}
@@ -32,6 +32,10 @@ rootInverse p i = inverseRoot (p .q) (transformSize p i) (transformRoot p i)
 
 unfoldable pub sizeInverse : Parameters → ℕ → ℕ
 sizeInverse p i = inverseSize (p .q) (transformSize p i)
+
+-- the latter with the factor 2^64 that the rows of an inverse transform leave to its end
+unfoldable pub rowScale : Parameters → ℕ → ℕ
+rowScale p i = sizeInverse p i * (2 ^ 64 % p .q) % p .q
 
 -- the powers of the inverse of root number i, one for each place of its transform
 unfoldable pub inversePowers : Parameters → ℕ → List ℕ

@@ -12,9 +12,9 @@ ghost use Rattle.sets.specs.Table.{setOf, IsSet};
 ghost use Rattle.sets.specs.Derived.{transformSize};
 ghost use Rattle.sets.specs.Rules.{Rules};
 ghost use Rattle.montgomery.specs.Scaled.{scale, Odd, Modulus};
-ghost use Rattle.ntt_products.specs.Stored.{rowCount, sizeInverse, inversePowers, sent, sentInverse, recoveredInverse, recovered, products, accumulated};
-ghost use Rattle.ntt_products.specs.Stored.{unscaled, correlations};
-ghost use Rattle.ntt_products.specs.Placed.{Placed, SentScaled, tableLength, SetLent, SetTables, RootTables, InverseTables};
+ghost use Rattle.ntt_products.specs.Stored.{rowCount, sizeInverse, rowScale, inversePowers, sent, sentInverse, recoveredInverse, recovered};
+ghost use Rattle.ntt_products.specs.Stored.{unscaled, products, accumulated, correlations};
+ghost use Rattle.ntt_products.specs.Placed.{Placed, SentScaled, tableLength, SetLent, SetTables, RootTables, InverseTables, RowsRecovered};
 
 // Multiplies each number of `x` by the one that the number of `y` at its place is the scaled form of.
 fn multiply(x: &mut [u32], y: &[u32], q: u32, k: u32)
@@ -61,7 +61,7 @@ pub fn size_of(set: usize, i: usize) -> usize
 }
 
 // The rows of transform number i.
-fn rows_of(p: Parameters, i: usize) -> usize
+pub fn rows_of(p: Parameters, i: usize) -> usize
     requires { ⌜ Rules p ⌝ }
     ensures { λ r. ⌜ r ≡ rowCount p i ⌝ }
 {
@@ -83,6 +83,14 @@ fn scaled_inverse_of(p: Parameters, i: usize) -> u32
     ensures { λ r. ⌜ r ≡ scale (p .q) (sizeInverse p i) ⌝ }
 {
     residues::multiply(size_inverse_of(p, i), montgomery::scaled_one(p.q), p.q)
+}
+
+// The inverse of the size with the factor that the rows of an inverse transform leave to its end.
+pub fn row_scale_of(p: Parameters, i: usize) -> u32
+    requires { ⌜ Rules p ⌝ }
+    ensures { λ r. ⌜ r ≡ rowScale p i ⌝ }
+{
+    ntt_by_row::scaled_twice(size_inverse_of(p, i), p.q)
 }
 
 // Fills `out` with the powers of the inverse of root number i of a set.
@@ -175,6 +183,21 @@ pub fn recover_first_inverse(set: usize, i: usize, tables: &[u32], x: &mut [u32]
 {
     let p = sets::parameters_of(set);
     recover_front(p, i, tables, x, size_inverse_of(p, i), m);
+}
+
+// The rows of a vector that is stored with the inverse of root number i of a set, on the way back: the sums of the columns recover its first row.
+pub fn recover_rows(set: usize, i: usize, tables: &[u32], x: &mut [u32])
+    requires { ⌜ (1 ≤ set) × IsSet set × RootTables (setOf set) i (now tables) × Placed (setOf set) i (transformSize (setOf set) i) (now x) ⌝ }
+    ensures { λ _. ⌜ RowsRecovered (setOf set) i (now (x .entry)) (now (x .exit)) ⌝ }
+{
+    let p = sets::parameters_of(set);
+    ntt::inverse_rows(
+        x,
+        tables,
+        rows_of(p, i),
+        p.q,
+        montgomery::negated_inverse(p.q),
+    );
 }
 
 // Recovers the first `m` numbers of a vector that is stored with root number i of a set.

@@ -6,16 +6,18 @@ use numbers::signed;
 use numbers::sums::sum_place;
 use sets::Parameters;
 ghost use mathlib.Core.Path.{_≡_};
-ghost use Prim.Native.Nat.{_<_, _≤_, _+_, _*_, _%_};
+ghost use mathlib.Core.List.{List};
+ghost use Prim.Native.Nat.{ℕ, _<_, _≤_, _+_, _%_};
 ghost use lib.ListN.{length};
 ghost use Rattle.maths.specs.Vector.{at, tabulate, Below};
 ghost use Rattle.calls.specs.Outcome.{outcome};
 ghost use Rattle.calls.specs.Checks.{allOf};
-ghost use Rattle.sets.specs.Derived.{halfModulus};
 ghost use Rattle.sets.specs.Rules.{Rules};
 ghost use Rattle.numbers.specs.Operands.{Family, SealingOperands};
-ghost use Rattle.numbers.specs.Scheme.{sumOfProducts, firstPart, sumOfMiddles, secondPart};
+ghost use Rattle.numbers.specs.Scheme.{sumOfProducts, firstPart, secondPart};
 ghost use Rattle.numbers.specs.Calls.{sealingShape, multipliersAndMessage, sealingRange, sealingAnswer, firstPartLeft, secondPartLeft};
+ghost use Rattle.c2_place.specs.Walk.{Walked};
+ghost use Rattle.numbers_sealing.specs.Finished.{finished};
 
 // Whether the lengths are the set's.
 fn lengths_fit(p: Parameters, a: usize, b: usize, r: usize, m: usize, c1: usize, c2: usize) -> bool
@@ -84,30 +86,27 @@ fn fill_first(p: Parameters, rs: &[u32], a: &[u32], c1: &mut [u32])
     }
 }
 
-// The number of c2 at place `j`.
-fn second_place(p: Parameters, rs: &[u32], b: &[u32], m: &[u32], j: usize) -> u32
+// Finishes place `j` of c2: the sum of the middle products there, and h times the message bit.
+fn finish_place(p: Parameters, rs: &[u32], b: &[u32], m: &[u32], j: usize, c2: &mut [u32])
     requires { ⌜ Rules p × Family (p .q) (p .k + 1) (p .t) (now rs) × Family (p .q) (p .d + p .k) (p .t) (now b)
-        × (j < p .d) × (j < length (now m)) × (at (now m) j < 2) ⌝ }
-    ensures { λ r. ⌜ r ≡ (sumOfMiddles p (now (rs .entry)) (now (b .entry)) j + halfModulus p * at (now (m .entry)) j) % p .q ⌝ }
+        × (j < p .d) × (j < length (now m)) × (at (now m) j < 2) × (length (now c2) ≡ p .d) ⌝ }
+    ensures { λ _. ⌜ ((before : List ℕ) → Walked (finished p (now (rs .entry)) (now (b .entry)) (now (m .entry))) before j (now (c2 .entry))
+        → Walked (finished p (now (rs .entry)) (now (b .entry)) (now (m .entry))) before (j + 1) (now (c2 .exit))) ⌝ }
 {
-    let q = p.q;
     let h = sets::derived::half_modulus(p);
     let sum = sum_place(rs, p.k + 1, b, p.d + p.k, p.k + j, p);
-    let bit = residues::multiply(h, m[j], q);
-    residues::add(sum, bit, q)
+    c2_place::finish(c2, j, sum, m[j], h, p.q);
 }
 
-// Writes c2.
+// Writes c2 in one walk.
 fn fill_second(p: Parameters, rs: &[u32], b: &[u32], m: &[u32], c2: &mut [u32])
     requires { ⌜ Rules p × Family (p .q) (p .k + 1) (p .t) (now rs) × Family (p .q) (p .d + p .k) (p .t) (now b)
         × (length (now m) ≡ p .d) × Below 2 (now m) × (length (now c2) ≡ p .d) ⌝ }
-    ensures { λ _. ⌜ now (c2 .exit)
-        ≡ tabulate (p .d) (λ j. (sumOfMiddles p (now (rs .entry)) (now (b .entry)) j + halfModulus p * at (now (m .entry)) j) % p .q) ⌝ }
+    ensures { λ _. ⌜ now (c2 .exit) ≡ finished p (now (rs .entry)) (now (b .entry)) (now (m .entry)) ⌝ }
 {
     let mut j: usize = 0;
     while j < c2.len() {
-        let value = second_place(p, rs, b, m, j);
-        c2[j] = value;
+        finish_place(p, rs, b, m, j, c2);
         j += 1;
     }
 }

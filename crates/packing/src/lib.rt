@@ -255,7 +255,7 @@ pub fn unpack_into(bytes: &[u8], width: u32, out: &mut [u32])
 }
 
 // Bit i of a message.
-fn bit_at(message: &[u8], i: usize) -> u32
+pub fn bit_at(message: &[u8], i: usize) -> u32
     ensures { λ r. ⌜ r ≡ at (now (message .entry)) (i / 8) / 2 ^ (i % 8) % 2 ⌝ }
 {
     (byte_at(message, i / 8) >> (i % 8)) % 2

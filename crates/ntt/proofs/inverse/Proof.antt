@@ -46,7 +46,7 @@ returns c w e made scale =
     let settled = front-changed n (columns .columns .last .0) (c .before .before .settle .last .0) _ (λ y. y * unscale (start .args .q)
     (start .args .by) % start .args .q)
     fits (rw whole at (c .before .before .settle .ensures)) in
-    recovered (pre .0) made e (start .args .m) (pre .1) scale (rows .inverse-rows .ensures)
+    recovered (pre .0) made e scale (rows .inverse-rows .ensures) (start .args .m) (pre .1)
     (rw (rest (start .args .tables .now) (start .args .rows * 256 + 264)) at (columns .columns .ensures)) settled (ap length settled ∙ tabulate-length n _)
 
 pub inverse-spec : {M : Type 1} → statement M

@@ -5,6 +5,7 @@ use Prim.Native.Nat.{_+_}
 use native.Mathlib.Omega.{arith}
 use Rattle.sets.specs.Derived.{multiplierCount}
 use Rattle.numbers.proofs.SealingLaws.{residues-family, firstPart-from, secondPart-from}
+use Rattle.numbers_sealing.specs.Finished.{finished}
 use borrow.Author.Needs.{needs}
 use Rattle.numbers_sealing.proofs.fill.Statement.{statement}
 use Rattle.numbers_sealing.proofs.fill.Tie as tie
@@ -42,6 +43,7 @@ fill-second-requires c κs =
     )
 
 returns : tie.Need-returns
+unfolding finished
 returns c =
     let at-fill-first = c .before .before .before .before .before .before .before in
     let at-residues-of = at-fill-first .before .before .before .before .before in

@@ -1,39 +1,37 @@
--- The first d numbers of the total are copied out.
+-- The walk makes c2 out of the rows of the sums of correlations.
 -- Assumes nothing.
 use mathlib.Core.Path.{_∙_}
-use native.Mathlib.Omega.{arith}
-use Rattle.cpa_encrypt.proofs.Correlating.{message-fits, region-front}
+use Rattle.cpa_encrypt.proofs.Correlating.{second-sums}
 use borrow.Author.Needs.{needs}
 use Rattle.cpa_encrypt.proofs.second.numbers_with_buffers.Statement.{statement}
 use Rattle.cpa_encrypt.proofs.second.numbers_with_buffers.Tie as tie
 
-copy-out-requires : tie.Need-copy-out-requires
-copy-out-requires c κs =
-    let at-sums-with-buffers = c .before .before .before .before .before .before .before .before in
-    let at-shared-slice-known2 = at-sums-with-buffers .before .before .before .before .before .before .before .before .before in
-    let start = at-shared-slice-known2 .before .before in
-    omega (
-      arith,
-      at-sums-with-buffers .sums-with-buffers .kept .1 .1 .1 .1 .1 .0,
-      start .pre .4,
-      start .pre .6,
-      message-fits (start .args .set) (start .pre .1),
-    )
+-- points of the function, each from a later one: the entry, the rows of the sums
+abbrev start : tie.After-sum-rows → tie.Start
+start c = c .before .before .before .before .before .before .before .before .before .before .before
+
+abbrev summed : tie.After-walk → tie.After-sum-rows
+summed c = c .before .before .before .before .before .before .before .before .before
+
+walk-requires : tie.Need-walk-requires
+walk-requires c κs =
+    let sums = c .before .before .before .before .before .before .before .before in
+    let pre = start sums .pre in
+    (pre .0, pre .1, sums .sum-rows .ensures .size, sums .sum-rows .ensures .below, pre .4)
 
 returns : tie.Need-returns
 returns c =
-    let at-total = c .before .before .before .before .before .before .before .before in
-    let at-sums-with-buffers = at-total .before .before .before in
-    let at-shared-slice-known2 = at-sums-with-buffers .before .before .before .before .before .before .before .before .before in
-    let at-start = at-shared-slice-known2 .before .before in
-    c .before .before .copy-out .ensures ∙ region-front _ _ _ _ (at-start .pre .4) (at-sums-with-buffers .sums-with-buffers .ensures)
+    let walked = c .before .before in
+    let begun = start (summed walked) in
+    walked .walk .ensures _ (summed walked .sum-rows .ensures)
+    ∙ second-sums (begun .args .set) (begun .pre .1) (begun .args .numbers .now) (begun .args .multipliers .now) (begun .pre .3) (begun .args .message .now)
 
 pub numbers-with-buffers-spec : {M : Type 1} → statement M
 numbers-with-buffers-spec =
     tie.close
     (tie.spec
     (λ c κs. search needs)
-    copy-out-requires
+    walk-requires
     (λ c. search needs)
     (λ c. search needs)
     (λ c. search needs)
