@@ -25,7 +25,7 @@ fn finish_place(
         → Walked (finished q by half count (length (now (c2 .entry))) (now (rows .entry)) (now (message .entry))) before (j + 1) (now (c2 .exit))) ⌝ }
 {
     let sum = ntt::first_row_place(rows, j, by, count, q, k);
-    let bit = packing::bit_at(message, j);
+    let bit = bit_fields::bit_at(message, j);
     c2_place::finish(c2, j, sum, bit, half, q);
 }
 

@@ -19,13 +19,6 @@ fn number_at(numbers: &[u32], i: usize) -> u64
     }
 }
 
-// The byte at place i, and 0 past the end.
-fn byte_at(bytes: &[u8], i: usize) -> u32
-    ensures { λ r. ⌜ (r ≡ at (now (bytes .entry)) i) × (r < 2 ^ 8) ⌝ }
-{
-    if i < bytes.len() { bytes[i] as u32 } else { 0 }
-}
-
 // The byte that begins at a bit of number i, where `kept` bits of each number are left without its low `cmp`.
 fn byte_of(numbers: &[u32], i: usize, bit: u32, kept: u32, cmp: u32) -> u8
     requires { ⌜ (i < 2 ^ 63) × (bit < kept) × (kept ≤ 24) × (cmp ≤ 24) ⌝ }
@@ -152,10 +145,10 @@ fn last_word_at(bytes: &[u8], j: usize) -> u32
     requires { ⌜ j < 2 ^ 63 ⌝ }
     ensures { λ r. ⌜ r ≡ fourBytes (now (bytes .entry)) j ⌝ }
 {
-    byte_at(bytes, j)
-        + (byte_at(bytes, j + 1) << 8)
-        + (byte_at(bytes, j + 2) << 16)
-        + (byte_at(bytes, j + 3) << 24)
+    bit_fields::byte_at(bytes, j)
+        + (bit_fields::byte_at(bytes, j + 1) << 8)
+        + (bit_fields::byte_at(bytes, j + 2) << 16)
+        + (bit_fields::byte_at(bytes, j + 3) << 24)
 }
 
 // The same anywhere.
@@ -170,21 +163,12 @@ fn window_at(bytes: &[u8], j: usize) -> u32
     }
 }
 
-// The number whose `kept` high bits begin at a bit of a word, with zeros for its low `cmp`.
-fn number_in(word: u32, bit: u32, kept: u32, cmp: u32) -> u32
-    requires { ⌜ (bit < 8) × (kept + cmp ≤ 24) ⌝ }
-    ensures { λ r. ⌜ r ≡ word / 2 ^ bit % 2 ^ kept * 2 ^ cmp ⌝ }
-{
-    let ones: u32 = (1 << kept) - 1;
-    ((word >> bit) & ones) << cmp
-}
-
-// The same at a bit of byte j.
+// The number whose `kept` high bits begin at a bit of byte j, with zeros for its low `cmp`.
 fn number_of(bytes: &[u8], j: usize, bit: u32, kept: u32, cmp: u32) -> u32
     requires { ⌜ (j < 2 ^ 63) × (bit < 8) × (kept + cmp ≤ 24) ⌝ }
     ensures { λ r. ⌜ r ≡ fourBytes (now (bytes .entry)) j / 2 ^ bit % 2 ^ kept * 2 ^ cmp ⌝ }
 {
-    number_in(window_at(bytes, j), bit, kept, cmp)
+    bit_fields::number_in(window_at(bytes, j), bit, kept, cmp)
 }
 
 // Number k of the eight that begin with byte j, far from the end.
@@ -193,7 +177,7 @@ fn number_in_group(bytes: &[u8], j: usize, k: usize, kept: u32, cmp: u32) -> u32
     ensures { λ r. ⌜ r ≡ fourBytes (now (bytes .entry)) (j + k * kept / 8) / 2 ^ (k * kept % 8) % 2 ^ kept * 2 ^ cmp ⌝ }
 {
     let bits = k * (kept as usize);
-    number_in(word_at(bytes, j + bits / 8), (bits % 8) as u32, kept, cmp)
+    bit_fields::number_in(word_at(bytes, j + bits / 8), (bits % 8) as u32, kept, cmp)
 }
 
 // Unpacks the eight numbers that begin with byte j into the places from i on.
@@ -254,20 +238,13 @@ pub fn unpack_into(bytes: &[u8], width: u32, out: &mut [u32])
     unpack_dropped(bytes, width, 0, out);
 }
 
-// Bit i of a message.
-pub fn bit_at(message: &[u8], i: usize) -> u32
-    ensures { λ r. ⌜ r ≡ at (now (message .entry)) (i / 8) / 2 ^ (i % 8) % 2 ⌝ }
-{
-    (byte_at(message, i / 8) >> (i % 8)) % 2
-}
-
 // Writes the bits of a message into all of `out`.
 pub fn bits_of(message: &[u8], out: &mut [u32])
     ensures { λ _. ⌜ now (out .exit) ≡ messageBits (length (now (out .entry))) (now (message .entry)) ⌝ }
 {
     let mut i: usize = 0;
     while i < out.len() {
-        out[i] = bit_at(message, i);
+        out[i] = bit_fields::bit_at(message, i);
         i += 1;
     }
 }

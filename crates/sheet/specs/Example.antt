@@ -20,8 +20,9 @@ use Rattle.sheet_text.specs.Decimal as decimal
 use Rattle.sheet_text.specs.Order.{shown, ordered, inserted, insert, before, sizeAt}
 use Rattle.sheet_text.specs.Text.{header, row, rows, ceilingWord, halfWord, lastLine, sheetText, refusedWord, refusedText}
 use Rattle.sheet_text.specs.Ceiling.{ceiling}
-use Rattle.sheet_rows.specs.Input.{hasSheet, inputBytes, handedIn, rowNoise, rowSent, rowRead, rowsAnswer}
-use Rattle.sheet.specs.Sheet.{setByte, inputAnswer, sheetAnswer, rowsText, sheetOf}
+use Rattle.sheet_parts.specs.Checks.{hasSheet, inputBytes, setByte, inputAnswer}
+use Rattle.sheet_rows.specs.Input.{handedIn, rowNoise, rowSent, rowRead, rowsAnswer}
+use Rattle.sheet.specs.Sheet.{sheetAnswer, rowsText, sheetOf}
 
 -- a 3 5, s 1 2 3 4, e 1 0 −1, r 1 −2, message 1 0
 abbrev example : List ℕ

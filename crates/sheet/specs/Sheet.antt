@@ -1,29 +1,17 @@
 -- The bench sheet of an input (01, The bench sheet; How each call answers: Bench sheet): its answer, and the bytes of its whole text.
 -- Assumes nothing.
 use mathlib.Core.Path.{_≡_, refl}
-use mathlib.Core.Bool.{Bool, not, _&&_}
+use mathlib.Core.Bool.{Bool, _&&_}
 use mathlib.Core.List.{List, [], _∷_}
 use Prim.Native.Nat.{ℕ}
-use lib.Dec.{leb, ltb, eqb}
-use lib.ListN.{length}
-use Rattle.maths.specs.Vector.{at}
-use Rattle.calls.specs.Outcome.{Outcome, accepted, refused, refuse}
+use lib.Dec.{leb, eqb}
+use Rattle.calls.specs.Outcome.{Outcome, accepted, refused}
 use Rattle.sets.specs.Table.{table, setOf}
 use Rattle.sets.specs.Derived.{isEncryption, halfModulus}
 use Rattle.sheet_text.specs.Ceiling.{ceiling}
 use Rattle.sheet_text.specs.Text.{sheetText, refusedText}
-use Rattle.sheet_rows.specs.Input.{hasSheet, inputBytes, rowNoise, rowSent, rowRead, rowsAnswer, sheetWork}
-
--- the set byte; an empty input has none
-unfoldable pub setByte : List ℕ → ℕ
-setByte input = at input 0
-
--- 2 for an empty input, 1 when the set is not 0 to 6, 2 when the length is not the set's; then what comes after
-unfoldable pub inputAnswer : List ℕ → Outcome → Outcome
-inputAnswer input after =
-    refuse (ltb (length input) 1) 2 0
-    (refuse (not (hasSheet (setByte input))) 1 0
-    (refuse (not (eqb (length input) (inputBytes (setByte input)))) 2 0 after))
+use Rattle.sheet_parts.specs.Checks.{hasSheet, inputBytes, setByte, inputAnswer}
+use Rattle.sheet_rows.specs.Input.{rowNoise, rowSent, rowRead, rowsAnswer, sheetWork}
 
 -- then what the rows answer
 unfoldable pub sheetAnswer : List ℕ → Outcome

@@ -1,5 +1,4 @@
 // The bench sheet (01, The bench sheet): from the bytes of an input to the bytes of its text.
-mod input;
 mod text;
 
 ghost use mathlib.Core.Path.{_≡_};
@@ -10,7 +9,8 @@ ghost use Rattle.calls.specs.Outcome.{accepted};
 ghost use Rattle.calls.specs.Region.{over};
 ghost use Rattle.claim.specs.Claim.{Demand3};
 ghost use Rattle.sheet_rows.specs.Input.{handedIn};
-ghost use Rattle.sheet.specs.Sheet.{setByte, sheetAnswer, sheetOf, sheetFits};
+ghost use Rattle.sheet_parts.specs.Checks.{setByte};
+ghost use Rattle.sheet.specs.Sheet.{sheetAnswer, sheetOf, sheetFits};
 
 // Writes the sheet of an input at the front of `text`, and answers its length: 0, with nothing written, where a lent slice does not fit.
 pub fn sheet(input: &[u8], text: &mut [u8], work: &mut [u32]) -> usize

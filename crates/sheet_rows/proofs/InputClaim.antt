@@ -18,7 +18,8 @@ use Rattle.claim.specs.Claim.{encryption, Fits, Demand3}
 use Rattle.claim.proofs.Claim.{demand-3}
 use Rattle.sheet_bench.specs.Bench.{benchHanded}
 use Rattle.sheet_bench.proofs.Numbers.{bench-drawn}
-use Rattle.sheet_rows.specs.Input.{hasSheet, inputBytes, keySeedOf, sealingSeedOf, messageOf, handedIn, rowsAnswer}
+use Rattle.sheet_parts.specs.Checks.{hasSheet, inputBytes}
+use Rattle.sheet_rows.specs.Input.{keySeedOf, sealingSeedOf, messageOf, handedIn, rowsAnswer}
 use Rattle.sheet_rows.proofs.Sets.{sheet-encryption, sheet-set}
 use Rattle.sheet_rows.proofs.RowLaws.{input-long}
 

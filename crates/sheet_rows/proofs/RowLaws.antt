@@ -25,7 +25,8 @@ use Rattle.sheet_bench.proofs.Numbers.{bench-message, bench-small}
 use Rattle.sheet_bench.proofs.NoiseLaws.{noise-two}
 use Rattle.sheet_text.specs.Written.{Sizes}
 use Rattle.sheet_text.proofs.OrderLaws.{sizes-small}
-use Rattle.sheet_rows.specs.Input.{inputBytes, keySeedOf, sealingSeedOf, messageOf, handedIn, rowNoise, rowSent, rowRead, rowsAnswer}
+use Rattle.sheet_parts.specs.Checks.{inputBytes}
+use Rattle.sheet_rows.specs.Input.{keySeedOf, sealingSeedOf, messageOf, handedIn, rowNoise, rowSent, rowRead, rowsAnswer}
 use Rattle.sheet_rows.specs.Rows.{seededNoise, seededSent, seededRead, Rows, SeededRows, InputRows}
 
 -- an input of an encryption set has 97 bytes

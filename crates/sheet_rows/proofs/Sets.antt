@@ -15,7 +15,8 @@ use Rattle.sets.specs.Derived.{isEncryption, isExchange, errorCount}
 use Rattle.sets.proofs.Schemes.{past, encryption-only}
 use Rattle.sets.proofs.Tested.{passed, at-each}
 use Rattle.scheme.specs.Answers.{workLength}
-use Rattle.sheet_rows.specs.Input.{hasSheet, sheetWork}
+use Rattle.sheet_parts.specs.Checks.{hasSheet}
+use Rattle.sheet_rows.specs.Input.{sheetWork}
 
 -- an encryption set is a set
 pub encryption-set : (set : ℕ) → isEncryption set ≡ true → IsSet set

@@ -1,29 +1,18 @@
--- An input of the bench sheet (01, The bench sheet; How each call answers: Bench sheet): which sets have one, what it hands in, the numbers of its rows.
+-- An input of the bench sheet (01, The bench sheet; How each call answers: Bench sheet): what it hands in, and the numbers of its rows.
 -- Assumes nothing.
-use mathlib.Core.Path.{_≡_, refl}
-use mathlib.Core.Bool.{Bool, cond, _||_}
-use mathlib.Core.List.{List, [], _∷_, map}
+use mathlib.Core.Bool.{cond}
+use mathlib.Core.List.{List}
 use Prim.Native.Nat.{ℕ}
-use lib.Dec.{leb, eqb}
+use lib.Dec.{eqb}
 use lib.IntN.{ℤ}
 use Rattle.maths.specs.Vector.{tabulate}
 use Rattle.calls.specs.Outcome.{Outcome}
 use Rattle.calls.specs.Region.{region}
-use Rattle.sets.specs.Table.{none, table, setOf}
-use Rattle.sets.specs.Derived.{isEncryption}
+use Rattle.sets.specs.Table.{setOf}
 use Rattle.draws.specs.Calls.{inTurn}
 use Rattle.scheme.specs.Answers.{keyDraws}
 use Rattle.claim.specs.Claim.{Handed, encryption, noiseAt, bitSent, bitRead}
 use Rattle.sheet_bench.specs.Bench.{benchHanded, benchAnswer}
-
--- the sets that have a sheet: set 0, Bench, and the encryption sets
-unfoldable pub hasSheet : ℕ → Bool
-hasSheet set = eqb set 0 || isEncryption set
-
--- an input of set 0 has the set byte, a (2), s (4), e (3), r (2) and the message bits (2)
--- an input of an encryption set has the set byte, key seed, sealing seed and message, of 32 bytes each
-unfoldable pub inputBytes : ℕ → ℕ
-inputBytes set = cond (eqb set 0) 14 97
 
 unfoldable pub keySeedOf : List ℕ → List ℕ
 keySeedOf input = region input 1 32
@@ -55,11 +44,3 @@ rowsAnswer set input = cond (eqb set 0) (benchAnswer input) (keyDraws (setOf set
 -- how many numbers the work slice of a sheet has: the largest work length of the sets that have one
 unfoldable pub sheetWork : ℕ
 sheetWork = 22521
-
--- sets 0 to 6 have a sheet, and no set after them
-abbrev numbers : List ℕ
-numbers = 0 ∷ 1 ∷ 2 ∷ 3 ∷ 4 ∷ 5 ∷ 6 ∷ 7 ∷ 8 ∷ 9 ∷ 10 ∷ 11 ∷ 12 ∷ 13 ∷ []
-
-hasSheet-example : map hasSheet numbers ≡ map (λ set. leb set 6) numbers
-unfolding hasSheet isEncryption none setOf table
-hasSheet-example = refl

@@ -7,7 +7,8 @@ ghost use mathlib.Core.Bool.{true};
 ghost use lib.ListN.{length};
 ghost use Rattle.calls.specs.Outcome.{outcome, accepted};
 ghost use Rattle.sets.specs.Table.{setOf};
-ghost use Rattle.sheet_rows.specs.Input.{hasSheet, inputBytes, rowsAnswer, sheetWork};
+ghost use Rattle.sheet_parts.specs.Checks.{hasSheet, inputBytes};
+ghost use Rattle.sheet_rows.specs.Input.{rowsAnswer, sheetWork};
 ghost use Rattle.sheet_rows.specs.Rows.{InputRows};
 
 // Writes the noise, the bits sent and the bits read of every place.

@@ -3,9 +3,11 @@
 use mathlib.Core.Path.{_≡_, sym, ap, _∙_}
 use Prim.Native.Nat.{ℕ}
 use Rattle.calls.specs.Outcome.{outcome, accepted}
-use Rattle.sheet_rows.specs.Input.{hasSheet, inputBytes, rowsAnswer}
-use Rattle.sheet.specs.Sheet.{inputAnswer, answerText, rowsText}
-use Rattle.sheet.proofs.SheetLaws.{input-is, checked-text, unchecked-text, printed-as}
+use Rattle.sheet_parts.specs.Checks.{hasSheet, inputBytes, inputAnswer}
+use Rattle.sheet_parts.proofs.Laws.{input-is, printed-as}
+use Rattle.sheet_rows.specs.Input.{rowsAnswer}
+use Rattle.sheet.specs.Sheet.{answerText, rowsText}
+use Rattle.sheet.proofs.SheetLaws.{checked-text, unchecked-text}
 use borrow.Author.Needs.{needs}
 use Rattle.sheet.proofs.text.write.Statement.{statement}
 use Rattle.sheet.proofs.text.write.Tie as tie

@@ -6,7 +6,8 @@ use Rattle.calls.specs.Outcome.{outcome}
 use Rattle.sets.proofs.Rules.{rules}
 use Rattle.sheet_rows.proofs.Sets.{sheet-set}
 use Rattle.sheet.specs.Sheet.{rowsText}
-use Rattle.sheet.proofs.SheetLaws.{accepted-text, refused-text, printed-as}
+use Rattle.sheet_parts.proofs.Laws.{printed-as}
+use Rattle.sheet.proofs.SheetLaws.{accepted-text, refused-text}
 use borrow.Author.Needs.{needs}
 use Rattle.sheet.proofs.text.write_rows.Statement.{statement}
 use Rattle.sheet.proofs.text.write_rows.Tie as tie

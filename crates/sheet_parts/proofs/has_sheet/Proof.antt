@@ -2,9 +2,9 @@
 -- Assumes nothing.
 use borrow.Author.Needs.{needs}
 use borrow.Author.Tests.{eq-eqb, ne-eqb}
-use Rattle.sheet_rows.specs.Input.{hasSheet}
-use Rattle.sheet.proofs.input.has_sheet.Statement.{statement}
-use Rattle.sheet.proofs.input.has_sheet.Tie as tie
+use Rattle.sheet_parts.specs.Checks.{hasSheet}
+use Rattle.sheet_parts.proofs.has_sheet.Statement.{statement}
+use Rattle.sheet_parts.proofs.has_sheet.Tie as tie
 
 returns : tie.Need-returns
 unfolding hasSheet

@@ -1,8 +1,8 @@
--- `packing::bit_at` (003, algorithm 27) meets its contract.
+-- `bit_fields::bit_at` (003, algorithm 27) meets its contract.
 -- Assumes nothing.
 use borrow.Author.Needs.{needs}
-use Rattle.packing.proofs.bit_at.Statement.{statement}
-use Rattle.packing.proofs.bit_at.Tie as tie
+use Rattle.bit_fields.proofs.bit_at.Statement.{statement}
+use Rattle.bit_fields.proofs.bit_at.Tie as tie
 
 returns : tie.Need-returns
 returns c = rw (c .byte-at .ensures .0)

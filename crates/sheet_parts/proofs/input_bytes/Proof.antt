@@ -1,9 +1,9 @@
 -- Set 0 has an input of its own.
 -- Assumes nothing.
 use borrow.Author.Tests.{eq-eqb, ne-eqb}
-use Rattle.sheet_rows.specs.Input.{inputBytes}
-use Rattle.sheet.proofs.input.input_bytes.Statement.{statement}
-use Rattle.sheet.proofs.input.input_bytes.Tie as tie
+use Rattle.sheet_parts.specs.Checks.{inputBytes}
+use Rattle.sheet_parts.proofs.input_bytes.Statement.{statement}
+use Rattle.sheet_parts.proofs.input_bytes.Tie as tie
 
 returns : tie.Need-returns
 unfolding inputBytes

@@ -1,11 +1,11 @@
--- `packing::byte_at` (003, algorithm 20) meets its contract.
+-- `bit_fields::byte_at` (003, algorithm 20) meets its contract.
 -- Assumes nothing.
 use mathlib.Core.Path.{refl, sym}
 use native.Mathlib.Omega.{arith}
 use borrow.Author.Needs.{needs}
 use Rattle.maths.proofs.Vector.{at-past}
-use Rattle.packing.proofs.byte_at.Statement.{statement}
-use Rattle.packing.proofs.byte_at.Tie as tie
+use Rattle.bit_fields.proofs.byte_at.Statement.{statement}
+use Rattle.bit_fields.proofs.byte_at.Tie as tie
 
 cast-result : tie.Need-cast-result
 cast-result c = omega (arith, c .shared-slice-known .given (c .before .before .args .i))

@@ -6,10 +6,10 @@ use Rattle.sets.specs.Derived.{halfModulus}
 use Rattle.sets.proofs.Rules.{rules-of}
 use Rattle.sheet_text.specs.Text.{sheetText}
 use Rattle.sheet_text.specs.Ceiling.{ceiling}
-use Rattle.sheet.proofs.SheetLaws.{printed-as}
+use Rattle.sheet_parts.proofs.Laws.{printed-as}
 use borrow.Author.Needs.{needs}
-use Rattle.sheet.proofs.text.write_accepted.Statement.{statement}
-use Rattle.sheet.proofs.text.write_accepted.Tie as tie
+use Rattle.sheet_parts.proofs.write_accepted.Statement.{statement}
+use Rattle.sheet_parts.proofs.write_accepted.Tie as tie
 
 ceiling-requires : tie.Need-ceiling-requires
 ceiling-requires c κs = rules-of (c .before .before .before .before .args .set) (c .before .before .before .before .pre .0) _ (c .parameters-of .ensures)

@@ -2,10 +2,10 @@
 -- Assumes nothing.
 use mathlib.Core.Path.{refl}
 use native.Mathlib.Omega.{arith}
-use Rattle.sheet.specs.Sheet.{setByte}
+use Rattle.sheet_parts.specs.Checks.{setByte}
 use borrow.Author.Needs.{needs}
-use Rattle.sheet.proofs.input.set_byte.Statement.{statement}
-use Rattle.sheet.proofs.input.set_byte.Tie as tie
+use Rattle.sheet_parts.proofs.set_byte.Statement.{statement}
+use Rattle.sheet_parts.proofs.set_byte.Tie as tie
 
 cast-result : tie.Need-cast-result
 cast-result c = omega (arith, c .shared-slice-known .given 0)

@@ -1,11 +1,17 @@
-// The checks of an input: its set byte and its length.
+// The parts of the bench sheet that need no rows: the checks of an input, its set byte and its length, and the text of rows that are filled.
 use calls::Answer;
+use sheet_text::last_line;
 ghost use mathlib.Core.Path.{_≡_};
 ghost use Prim.Native.Nat.{_≤_};
 ghost use lib.ListN.{length};
 ghost use Rattle.calls.specs.Outcome.{outcome, accepted};
-ghost use Rattle.sheet_rows.specs.Input.{hasSheet, inputBytes};
-ghost use Rattle.sheet.specs.Sheet.{setByte, inputAnswer};
+ghost use Rattle.sets.specs.Table.{setOf, IsSet};
+ghost use Rattle.sets.specs.Derived.{halfModulus};
+ghost use Rattle.sheet_text.specs.Ceiling.{ceiling};
+ghost use Rattle.sheet_text.specs.Text.{sheetText};
+ghost use Rattle.sheet_text.specs.Written.{Sealing};
+ghost use Rattle.sheet_parts.specs.Checks.{hasSheet, inputBytes, setByte, inputAnswer};
+ghost use Rattle.sheet_parts.specs.Printed.{Printed};
 
 // The set byte.
 pub fn set_byte(input: &[u8]) -> usize
@@ -50,4 +56,22 @@ pub fn checked(input: &[u8]) -> Answer
         return Answer::Refused(2, 0);
     }
     Answer::Done
+}
+
+// Writes the sheet of these rows.
+pub fn write_accepted(
+    set: usize,
+    noise: &[i64],
+    sent: &[u32],
+    read: &[u32],
+    out: &mut [u8],
+) -> usize
+    requires { ⌜ IsSet set × Sealing (now noise) (now sent) (now read) × (length (now noise) ≤ 256) × (1024 ≤ length (now out)) ⌝ }
+    ensures { λ r. ⌜ Printed (now (out .entry))
+        (sheetText (now (noise .entry)) (now (sent .entry)) (now (read .entry)) (ceiling (setOf set)) (halfModulus (setOf set))) (now (out .exit)) r ⌝ }
+{
+    let p = sets::parameters_of(set);
+    let most = last_line::ceiling(p);
+    let half = last_line::half(p);
+    sheet_text::write_sheet(noise, sent, read, most, half, out)
 }

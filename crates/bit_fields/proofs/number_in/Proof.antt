@@ -1,4 +1,4 @@
--- `packing::number_in` (003, algorithms 20 and 22) meets its contract: a mask of ones takes the bits that a division by a power of two leaves over.
+-- `bit_fields::number_in` (003, algorithms 20 and 22) meets its contract: a mask of ones takes the bits that a division by a power of two leaves over.
 -- Assumes nothing.
 use mathlib.Core.Path.{_≡_, _∙_}
 use Prim.Native.Nat.{ℕ, _+_, _-_, _*_, _/_, _%_, _^_, _≤_}
@@ -7,8 +7,8 @@ use native.Mathlib.Omega.{arith}
 use lib.Bits.{bitAnd, and-mask}
 use lib.Pow.{shl-exact, pow-pos}
 use borrow.Author.Needs.{needs}
-use Rattle.packing.proofs.number_in.Statement.{statement}
-use Rattle.packing.proofs.number_in.Tie as tie
+use Rattle.bit_fields.proofs.number_in.Statement.{statement}
+use Rattle.bit_fields.proofs.number_in.Tie as tie
 
 -- a one moved up by fewer bits than a word has
 one-moved : (kept : ℕ) → kept ≤ 24 → 1 * 2 ^ kept % 2 ^ 32 ≡ 2 ^ kept

@@ -4,11 +4,10 @@ use mathlib.Core.Path.{_≡_, sym, ap, _∙_}
 use borrow.Author.Needs.{needs}
 use borrow.Author.Tests.{not-true, not-false}
 use Rattle.calls.specs.Outcome.{accepted}
-use Rattle.sheet_rows.specs.Input.{hasSheet, inputBytes}
-use Rattle.sheet.specs.Sheet.{setByte}
-use Rattle.sheet.proofs.SheetLaws.{input-empty, input-set, input-length, input-passed}
-use Rattle.sheet.proofs.input.checked.Statement.{statement}
-use Rattle.sheet.proofs.input.checked.Tie as tie
+use Rattle.sheet_parts.specs.Checks.{hasSheet, inputBytes, setByte}
+use Rattle.sheet_parts.proofs.Laws.{input-empty, input-set, input-length, input-passed}
+use Rattle.sheet_parts.proofs.checked.Statement.{statement}
+use Rattle.sheet_parts.proofs.checked.Tie as tie
 
 -- the start of the function
 abbrev start-of : tie.After-has-sheet → tie.Start
