@@ -1,52 +1,31 @@
 -- The answer, the output and the work slice of the transformed middle product, check by check (01, How each call answers).
 -- Assumes nothing.
-use mathlib.Core.Path.{_≡_, sym, _∙_}
-use mathlib.Core.Bool.{true, false}
+use mathlib.Core.Path.{_≡_, sym, ap, _∙_}
 use mathlib.Core.List.{List}
-use Prim.Native.Nat.{ℕ, _≤_, _<_}
+use Prim.Native.Nat.{ℕ}
 use native.Mathlib.Omega.{arith}
-use borrow.Author.Tests.{leb-true, eqb-true, lt-ltb, le-ltb}
+use borrow.Author.Tests.{leb-true, eqb-true}
 use lib.ListN.{length, replicate}
 use Rattle.maths.specs.Product.{middleProduct}
-use Rattle.calls.specs.Outcome.{Outcome, accepted, refused, leaves}
-use Rattle.calls.specs.Checks.{allOf}
+use Rattle.calls.specs.Outcome.{Outcome, accepted, refused, leaves, andThen}
 use Rattle.calls.proofs.Outcome.{leaves-refused, leaves-accepted}
 use Rattle.calls.proofs.Checks.{allOf-each}
-use Rattle.sets.specs.Table.{setOf, lastSet}
-use Rattle.ntt_middle.specs.Calls.{transformedShape, lengthsChecked, numbersChecked, transformedAnswer, transformedLeft, middleWorkLeft}
+use Rattle.sets.specs.Table.{setOf}
+use Rattle.ntt_middle_checks.specs.Checks.{transformedShape, lengthsChecked}
+use Rattle.ntt_middle_checks.proofs.Laws.{lengths-then, lengths-are}
+use Rattle.ntt_middle.specs.Calls.{numbersChecked, transformedAnswer, transformedLeft, middleWorkLeft}
 use Rattle.ntt_middle.specs.Lengths.{Lengths}
 
-module _ (set a b d work : ℕ) (after : Outcome) where
-  -- no such set
-  checked-set : lastSet < set → lengthsChecked set a b d work after ≡ refused 1 0
-  unfolding lengthsChecked
-  checked-set h = rw (lt-ltb lastSet set h)
-
-  -- a length does not fit
-  checked-shape : set ≤ lastSet → allOf (transformedShape (setOf set .d3) a b d work) ≡ false → lengthsChecked set a b d work after ≡ refused 6 0
-  unfolding lengthsChecked
-  checked-shape h e = rw (le-ltb lastSet set h, e)
-
-  -- b is longer than the largest transform
-  checked-room : set ≤ lastSet → allOf (transformedShape (setOf set .d3) a b d work) ≡ true → setOf set .d3 < b
-      → lengthsChecked set a b d work after ≡ refused 7 0
-  unfolding lengthsChecked
-  checked-room h e l = rw (le-ltb lastSet set h, e, lt-ltb (setOf set .d3) b l)
-
-  -- all lengths pass
-  checked-passed : set ≤ lastSet → allOf (transformedShape (setOf set .d3) a b d work) ≡ true → b ≤ setOf set .d3 → lengthsChecked set a b d work after ≡ after
-  unfolding lengthsChecked
-  checked-passed h e l = rw (le-ltb lastSet set h, e, le-ltb (setOf set .d3) b l)
-
 -- lengths that pass
-pub lengths-passed : (set a b d work : ℕ) → allOf (transformedShape (setOf set .d3) a b d work) ≡ true → b ≤ setOf set .d3 → Lengths (setOf set) a b d work
-lengths-passed set a b d work e l =
-    let each = allOf-each (transformedShape (setOf set .d3) a b d work) e in
+pub lengths-passed : (set a b d work : ℕ) → lengthsChecked set a b d work accepted ≡ accepted → Lengths (setOf set) a b d work
+lengths-passed set a b d work passed =
+    let are = lengths-are set a b d work passed in
+    let each = allOf-each (transformedShape (setOf set .d3) a b d work) (are .1) in
     record {
       some = omega (arith, leb-true);
       results = omega (arith, leb-true);
       fit = omega (arith, leb-true, eqb-true);
-      room = l;
+      room = are .2;
       whole = eqb-true work (setOf set .d3) (each .0);
     }
 
@@ -57,34 +36,25 @@ Ended set a b out work answer out′ work′ =
     × ((out′ ≡ transformedLeft set a b out (length work)) × (work′ ≡ middleWorkLeft set (length a) (length b) (length out) work))
 
 module _ (set : ℕ) (a b out work : List ℕ) where
-  -- a call refused at its set or lengths leaves both slices as they were
-  refused-early : {number place : ℕ} → ((after : Outcome) → lengthsChecked set (length a) (length b) (length out) (length work) after ≡ refused number place)
-      → Ended set a b out work (refused number place) out work
+  -- the checks of the set and of the lengths
+  abbrev checks : Outcome
+  checks = lengthsChecked set (length a) (length b) (length out) (length work) accepted
+
+  -- they refuse, and both slices stay as they were
+  pub refused-early : {answer : Outcome} {number place : ℕ} → answer ≡ checks → answer ≡ refused number place → Ended set a b out work answer out work
   unfolding transformedAnswer transformedLeft middleWorkLeft
-  refused-early e = (sym (e _), (sym (leaves-refused _ out (e _)), sym (leaves-refused _ work (e accepted))))
+  refused-early e told =
+      let whole = lengths-then set (length a) (length b) (length out) (length work) (numbersChecked set a b)
+      ∙ ap (λ (o : Outcome). andThen o (numbersChecked set a b)) (sym e ∙ told) in
+      (told ∙ sym whole, (sym (leaves-refused _ out whole), sym (leaves-refused _ work (sym e ∙ told))))
 
-  -- no such set
-  pub refused-set : lastSet < set → Ended set a b out work (refused 1 0) out work
-  refused-set h = refused-early (λ after. checked-set set _ _ _ _ after h)
-
-  -- a length does not fit
-  pub refused-shape : set ≤ lastSet → allOf (transformedShape (setOf set .d3) (length a) (length b) (length out) (length work)) ≡ false
-      → Ended set a b out work (refused 6 0) out work
-  refused-shape h e = refused-early (λ after. checked-shape set _ _ _ _ after h e)
-
-  -- b is longer than the largest transform
-  pub refused-room : set ≤ lastSet → allOf (transformedShape (setOf set .d3) (length a) (length b) (length out) (length work)) ≡ true → setOf set .d3 < length b
-      → Ended set a b out work (refused 7 0) out work
-  refused-room h e l = refused-early (λ after. checked-room set _ _ _ _ after h e l)
-
-  -- once the lengths are checked the numbers decide, and the work slice is cleared
-  pub numbers-decide : set ≤ lastSet → allOf (transformedShape (setOf set .d3) (length a) (length b) (length out) (length work)) ≡ true
-      → length b ≤ setOf set .d3 → {answer : Outcome} {out′ work′ : List ℕ} {n : ℕ}
+  -- they pass: the numbers decide, and the work slice is cleared
+  pub numbers-decide : checks ≡ accepted → {answer : Outcome} {out′ work′ : List ℕ} {n : ℕ}
       → answer ≡ numbersChecked set a b → out′ ≡ leaves (numbersChecked set a b) (middleProduct (setOf set .q) a b (length out)) out → work′ ≡ replicate n 0
       → n ≡ length work
       → Ended set a b out work answer out′ work′
   unfolding transformedAnswer transformedLeft middleWorkLeft
-  numbers-decide h e l answered left cleared kept =
-      let passed : (after : Outcome)
-      → lengthsChecked set (length a) (length b) (length out) (length work) after ≡ after = λ after. checked-passed set _ _ _ _ after h e l in
-      (answered ∙ sym (passed _), (rw (passed (numbersChecked set a b)) left, cleared ∙ rw kept (sym (leaves-accepted _ work (passed accepted)))))
+  numbers-decide passed answered left cleared kept =
+      let whole = lengths-then set (length a) (length b) (length out) (length work) (numbersChecked set a b)
+      ∙ ap (λ (o : Outcome). andThen o (numbersChecked set a b)) passed in
+      (answered ∙ sym whole, (rw whole left, cleared ∙ rw kept (sym (leaves-accepted _ work passed))))

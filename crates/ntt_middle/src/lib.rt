@@ -1,43 +1,17 @@
 // The middle product of two slices of residues through the transforms, an open call (01, Middle product; 003 algorithm 35).
 use calls::Answer;
 ghost use mathlib.Core.Path.{_≡_};
-ghost use Prim.Native.Nat.{_-_, _≤_, _<_};
+ghost use Prim.Native.Nat.{_≤_};
 ghost use lib.ListN.{length};
-ghost use Rattle.maths.specs.Vector.{at, tabulate, AllBelow};
+ghost use Rattle.maths.specs.Vector.{AllBelow};
 ghost use Rattle.maths.specs.Product.{middleProduct};
 ghost use Rattle.calls.specs.Outcome.{outcome, leaves};
-ghost use Rattle.calls.specs.Checks.{allOf};
-ghost use Rattle.calls.specs.Region.{over};
 ghost use Rattle.sets.specs.Table.{setOf, IsSet};
 ghost use Rattle.sets.specs.Derived.{transformSize};
 ghost use Rattle.ntt_products.specs.Stored.{sentInverse};
 ghost use Rattle.ntt_products.specs.Placed.{tableLength};
-ghost use Rattle.ntt_middle.specs.Calls.{transformedShape, numbersChecked, transformedAnswer, transformedLeft, middleWorkLeft};
+ghost use Rattle.ntt_middle.specs.Calls.{numbersChecked, transformedAnswer, transformedLeft, middleWorkLeft};
 ghost use Rattle.ntt_middle.specs.Lengths.{Lengths};
-
-// Whether the lengths of a middle product of `a` and `b` numbers with `d` results fit each other, and the work slice has its size.
-fn lengths_fit(size: usize, a: usize, b: usize, d: usize, work: usize) -> bool
-    ensures { λ r. ⌜ r ≡ allOf (transformedShape size a b d work) ⌝ }
-{
-    if work != size {
-        return false;
-    }
-    middle::lengths_fit(a, b, d)
-}
-
-// Writes the numbers of `a`, last one first, to the front of `x`.
-fn load_reversed(x: &mut [u32], a: &[u32])
-    requires { ⌜ length (now a) ≤ length (now x) ⌝ }
-    ensures { λ _. ⌜ now (x .exit)
-        ≡ over (now (x .entry)) 0 (tabulate (length (now (a .entry))) (λ j. at (now (a .entry)) (length (now (a .entry)) - 1 - j))) ⌝ }
-{
-    let n = a.len();
-    let mut j: usize = 0;
-    while j < n {
-        x[j] = a[n - 1 - j];
-        j += 1;
-    }
-}
 
 // Stores `b` in the work slice, sent with the inverse of the root of a set's largest transform.
 fn store(set: usize, b: &[u32], tables: &mut [u32], work: &mut [u32])
@@ -67,7 +41,7 @@ fn correlate_stored(
 {
     store(set, b, tables, work);
     ntt_products::load_tables(set, 3, tables);
-    load_reversed(x, a);
+    ntt_middle_checks::load_reversed(x, a);
     ntt_products::correlate(set, 3, tables, x, a.len(), work, out.len());
     calls::copy_out(out, x, 0);
 }
@@ -119,17 +93,10 @@ pub fn middle_product(set: usize, a: &[u32], b: &[u32], out: &mut [u32], work: &
     ensures cleared { λ _. ⌜ now (work .exit)
         ≡ middleWorkLeft set (length (now (a .entry))) (length (now (b .entry))) (length (now (out .entry))) (now (work .entry)) ⌝ }
 {
-    if sets::LAST < set {
-        return Answer::Refused(1, 0);
-    }
-    let p = sets::parameters_of(set);
-    let size = p.d3;
-    if !lengths_fit(size, a.len(), b.len(), out.len(), work.len()) {
-        return Answer::Refused(6, 0);
-    }
-    if size < b.len() {
-        return Answer::Refused(7, 0);
-    }
+    let lengths = ntt_middle_checks::lengths_checked(set, a.len(), b.len(), out.len(), work.len());
+    let Answer::Done = lengths else {
+        return lengths;
+    };
     let answer = checked(set, a, b, out, work);
     calls::clear(work);
     answer

@@ -10,8 +10,8 @@ use Rattle.maths.proofs.Vector.{tabulate-length, tabulate-at}
 use Rattle.maths.proofs.Product.{reversed}
 use Rattle.calls.proofs.Filled.{Filled, filled-none, filled-more, filled-all}
 use borrow.Author.Needs.{needs}
-use Rattle.ntt_middle.proofs.load_reversed.Statement.{statement}
-use Rattle.ntt_middle.proofs.load_reversed.Tie as tie
+use Rattle.ntt_middle_checks.proofs.load_reversed.Statement.{statement}
+use Rattle.ntt_middle_checks.proofs.load_reversed.Tie as tie
 
 abbrev Inv-loop : tie.InvT-loop
 Inv-loop x₀ a n j₀ x j = Filled x₀ 0 (length a) (tabulate (length a) (reversed a)) j x

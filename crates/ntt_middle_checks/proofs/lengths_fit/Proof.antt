@@ -5,8 +5,8 @@ use borrow.Author.Tests.{ne-eqb, eq-eqb}
 use Rattle.calls.specs.Checks.{allOf}
 use Rattle.calls.proofs.Checks.{allOf-false}
 use borrow.Author.Needs.{needs}
-use Rattle.ntt_middle.proofs.lengths_fit.Statement.{statement}
-use Rattle.ntt_middle.proofs.lengths_fit.Tie as tie
+use Rattle.ntt_middle_checks.proofs.lengths_fit.Statement.{statement}
+use Rattle.ntt_middle_checks.proofs.lengths_fit.Tie as tie
 
 returns : tie.Need-returns
 returns c = sym (allOf-false _ 0 (ne-eqb _ _ (c .if1 .taken)))
