@@ -6,18 +6,16 @@ use numbers::signed;
 use numbers::sums::sum_place;
 use sets::Parameters;
 ghost use mathlib.Core.Path.{_≡_};
-ghost use mathlib.Core.List.{List};
-ghost use Prim.Native.Nat.{ℕ, _<_, _≤_, _+_, _%_};
+ghost use Prim.Native.Nat.{_≤_, _+_, _%_};
 ghost use lib.ListN.{length};
-ghost use Rattle.maths.specs.Vector.{at, tabulate, Below};
+ghost use Rattle.maths.specs.Vector.{tabulate, Below};
 ghost use Rattle.calls.specs.Outcome.{outcome};
 ghost use Rattle.calls.specs.Checks.{allOf};
 ghost use Rattle.sets.specs.Rules.{Rules};
 ghost use Rattle.numbers.specs.Operands.{Family, SealingOperands};
 ghost use Rattle.numbers.specs.Scheme.{sumOfProducts, firstPart, secondPart};
-ghost use Rattle.numbers.specs.Calls.{sealingShape, multipliersAndMessage, sealingRange, sealingAnswer, firstPartLeft, secondPartLeft};
-ghost use Rattle.c2_place.specs.Walk.{Walked};
-ghost use Rattle.numbers_sealing.specs.Finished.{finished};
+ghost use Rattle.numbers.specs.Calls.{sealingShape, sealingRange, sealingAnswer, firstPartLeft, secondPartLeft};
+ghost use Rattle.numbers_sealing_parts.specs.Finished.{finished};
 
 // Whether the lengths are the set's.
 fn lengths_fit(p: Parameters, a: usize, b: usize, r: usize, m: usize, c1: usize, c2: usize) -> bool
@@ -45,19 +43,7 @@ fn lengths_fit(p: Parameters, a: usize, b: usize, r: usize, m: usize, c1: usize,
     true
 }
 
-// Refused at the first number of `r` that is no multiplier, then at the first message number that is no bit, places counted from `offset`.
-fn multipliers_and_message_checked(p: Parameters, r: &[i32], m: &[u32], offset: usize) -> Answer
-    requires { ⌜ Rules p × (offset + length (now r) + length (now m) ≤ 65536) ⌝ }
-    ensures { λ x. ⌜ outcome x ≡ multipliersAndMessage p offset (now (r .entry)) (now (m .entry)) ⌝ }
-{
-    let first = signed::multipliers_checked(p, r, offset);
-    match first {
-        Answer::Refused(number, place) => Answer::Refused(number, place),
-        Answer::Done => checks::one_checked(m, 2, offset + r.len()),
-    }
-}
-
-// Refused at the first number of `a`, then `b`, that is q or more, then as above.
+// Refused at the first number of `a`, then `b`, that is q or more, then at the first of `r` and the message that is out of range.
 fn numbers_checked(p: Parameters, a: &[u32], b: &[u32], r: &[i32], m: &[u32]) -> Answer
     requires { ⌜ Rules p × (length (now a) + length (now b) + length (now r) + length (now m) ≤ 65536) ⌝ }
     ensures { λ x. ⌜ outcome x ≡ sealingRange p (now (a .entry)) (now (b .entry)) (now (r .entry)) (now (m .entry)) ⌝ }
@@ -66,7 +52,12 @@ fn numbers_checked(p: Parameters, a: &[u32], b: &[u32], r: &[i32], m: &[u32]) ->
     let first = checks::two_checked(a, b, q);
     match first {
         Answer::Refused(number, place) => Answer::Refused(number, place),
-        Answer::Done => multipliers_and_message_checked(p, r, m, a.len() + b.len()),
+        Answer::Done => numbers_sealing_parts::multipliers_and_message_checked(
+            p,
+            r,
+            m,
+            a.len() + b.len(),
+        ),
     }
 }
 
@@ -86,18 +77,6 @@ fn fill_first(p: Parameters, rs: &[u32], a: &[u32], c1: &mut [u32])
     }
 }
 
-// Finishes place `j` of c2: the sum of the middle products there, and h times the message bit.
-fn finish_place(p: Parameters, rs: &[u32], b: &[u32], m: &[u32], j: usize, c2: &mut [u32])
-    requires { ⌜ Rules p × Family (p .q) (p .k + 1) (p .t) (now rs) × Family (p .q) (p .d + p .k) (p .t) (now b)
-        × (j < p .d) × (j < length (now m)) × (at (now m) j < 2) × (length (now c2) ≡ p .d) ⌝ }
-    ensures { λ _. ⌜ ((before : List ℕ) → Walked (finished p (now (rs .entry)) (now (b .entry)) (now (m .entry))) before j (now (c2 .entry))
-        → Walked (finished p (now (rs .entry)) (now (b .entry)) (now (m .entry))) before (j + 1) (now (c2 .exit))) ⌝ }
-{
-    let h = sets::derived::half_modulus(p);
-    let sum = sum_place(rs, p.k + 1, b, p.d + p.k, p.k + j, p);
-    c2_place::finish(c2, j, sum, m[j], h, p.q);
-}
-
 // Writes c2 in one walk.
 fn fill_second(p: Parameters, rs: &[u32], b: &[u32], m: &[u32], c2: &mut [u32])
     requires { ⌜ Rules p × Family (p .q) (p .k + 1) (p .t) (now rs) × Family (p .q) (p .d + p .k) (p .t) (now b)
@@ -106,7 +85,7 @@ fn fill_second(p: Parameters, rs: &[u32], b: &[u32], m: &[u32], c2: &mut [u32])
 {
     let mut j: usize = 0;
     while j < c2.len() {
-        finish_place(p, rs, b, m, j, c2);
+        numbers_sealing_parts::finish_place(p, rs, b, m, j, c2);
         j += 1;
     }
 }

@@ -5,7 +5,7 @@ use Prim.Native.Nat.{_+_}
 use native.Mathlib.Omega.{arith}
 use Rattle.sets.specs.Derived.{multiplierCount}
 use Rattle.numbers.proofs.SealingLaws.{residues-family, firstPart-from, secondPart-from}
-use Rattle.numbers_sealing.specs.Finished.{finished}
+use Rattle.numbers_sealing_parts.specs.Finished.{finished}
 use borrow.Author.Needs.{needs}
 use Rattle.numbers_sealing.proofs.fill.Statement.{statement}
 use Rattle.numbers_sealing.proofs.fill.Tie as tie

@@ -6,8 +6,8 @@ use native.Mathlib.Omega.{arith}
 use lib.ListN.{length}
 use Rattle.c2_place.specs.Walk.{Walked}
 use Rattle.c2_place.proofs.Laws.{walked-none, walked-length, walked-all}
-use Rattle.numbers_sealing.specs.Finished.{finished}
-use Rattle.numbers_sealing.proofs.Finished.{finished-length}
+use Rattle.numbers_sealing_parts.specs.Finished.{finished}
+use Rattle.numbers_sealing_parts.proofs.Finished.{finished-length}
 use borrow.Author.Needs.{needs}
 use Rattle.numbers_sealing.proofs.fill_second.Statement.{statement}
 use Rattle.numbers_sealing.proofs.fill_second.Tie as tie

@@ -11,7 +11,7 @@ use Rattle.sets.specs.declared.Parameters.{Parameters}
 use Rattle.sets.specs.Derived.{halfModulus, multiplierCount}
 use Rattle.numbers.specs.Scheme.{sumOfProducts}
 use Rattle.numbers.proofs.SealingLaws.{middles-products}
-use Rattle.numbers_sealing.specs.Finished.{finished}
+use Rattle.numbers_sealing_parts.specs.Finished.{finished}
 
 module _ (p : Parameters) (x b m : List ℕ) where
   -- the length

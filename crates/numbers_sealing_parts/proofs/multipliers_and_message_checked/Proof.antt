@@ -8,8 +8,8 @@ use Rattle.calls.specs.Checks.{below, refuseFirst}
 use Rattle.middle.proofs.Chained.{first-refused, first-accepted}
 use Rattle.numbers.specs.Calls.{isMultiplier}
 use borrow.Author.Needs.{needs}
-use Rattle.numbers_sealing.proofs.multipliers_and_message_checked.Statement.{statement}
-use Rattle.numbers_sealing.proofs.multipliers_and_message_checked.Tie as tie
+use Rattle.numbers_sealing_parts.proofs.multipliers_and_message_checked.Statement.{statement}
+use Rattle.numbers_sealing_parts.proofs.multipliers_and_message_checked.Tie as tie
 
 returns : tie.Need-returns
 returns c =

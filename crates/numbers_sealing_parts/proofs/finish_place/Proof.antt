@@ -2,10 +2,10 @@
 -- Assumes nothing.
 use native.Mathlib.Omega.{arith}
 use Rattle.residues.proofs.Laws.{remainder-below}
-use Rattle.numbers_sealing.proofs.Finished.{finished-at}
+use Rattle.numbers_sealing_parts.proofs.Finished.{finished-at}
 use borrow.Author.Needs.{needs}
-use Rattle.numbers_sealing.proofs.finish_place.Statement.{statement}
-use Rattle.numbers_sealing.proofs.finish_place.Tie as tie
+use Rattle.numbers_sealing_parts.proofs.finish_place.Statement.{statement}
+use Rattle.numbers_sealing_parts.proofs.finish_place.Tie as tie
 
 -- points of the function, each from a later one: the entry, the half modulus, the sum of the place
 abbrev start : tie.After-half-modulus → tie.Start
