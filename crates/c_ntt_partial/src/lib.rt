@@ -2,7 +2,8 @@
 use c_answer::code;
 ghost use mathlib.Core.Path.{_≡_};
 ghost use lib.ListN.{length};
-ghost use Rattle.ntt_partial.specs.Calls.{partialAnswer, partialLeft, partialInverseLeft};
+ghost use Rattle.ntt_partial_checks.specs.Checks.{partialAnswer};
+ghost use Rattle.ntt_partial.specs.Calls.{partialLeft, partialInverseLeft};
 ghost use Rattle.c_answer.specs.Coded.{coded};
 
 // The transform of the first `m` of `d1` rows of `d2` numbers.

@@ -17,10 +17,11 @@ use Rattle.sets.proofs.Rules.{byteRules}
 use Rattle.middle.proofs.Chained.{accepted-one}
 use Rattle.ntt_products.specs.Stored.{rowCount, sent, recovered}
 use Rattle.ntt_products.proofs.Laws.{size-rows}
-use Rattle.ntt_partial.specs.Calls.{sizeNumber, partialAnswer, partialSent, partialRecovered}
+use Rattle.ntt_partial_checks.specs.Checks.{sizeNumber, partialAnswer}
+use Rattle.ntt_partial_checks.proofs.Sizes.{size-found}
+use Rattle.ntt_partial.specs.Calls.{partialSent, partialRecovered}
 use Rattle.ntt_partial_steps.specs.Split.{Split, Wide}
 use Rattle.ntt_partial_steps.proofs.Rows.{size-few}
-use Rattle.ntt_partial.proofs.Sizes.{size-found}
 
 -- the set, the rows and columns, and the lengths of an accepted call
 pub record Accepted (set D1 D2 m : ℕ) (input : List ℕ) (places : ℕ) : Type 0 where

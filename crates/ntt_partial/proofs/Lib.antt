@@ -1,2 +1,1 @@
 mod Accepted
-mod Sizes

@@ -8,7 +8,8 @@ use Rattle.calls.proofs.Outcome.{refused-call, accepted-call}
 use Rattle.sets.specs.declared.Parameters.{Parameters}
 use Rattle.sets.specs.Table.{setOf}
 use Rattle.sets.proofs.Rules.{rules}
-use Rattle.ntt_partial.specs.Calls.{sizeNumber, partialAnswer, partialSent, partialLeft}
+use Rattle.ntt_partial_checks.specs.Checks.{sizeNumber, partialAnswer}
+use Rattle.ntt_partial.specs.Calls.{partialSent, partialLeft}
 use Rattle.ntt_partial.proofs.Accepted.{Accepted, call-accepted, call-wide, wide-sent}
 use borrow.Author.Needs.{needs}
 use Rattle.ntt_partial.proofs.forward.Statement.{statement}

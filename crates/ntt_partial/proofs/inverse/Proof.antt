@@ -11,7 +11,8 @@ use Rattle.calls.proofs.Outcome.{refused-call, accepted-call}
 use Rattle.sets.specs.declared.Parameters.{Parameters}
 use Rattle.sets.specs.Table.{setOf}
 use Rattle.sets.proofs.Rules.{rules}
-use Rattle.ntt_partial.specs.Calls.{sizeNumber, partialAnswer, partialRecovered, partialInverseLeft}
+use Rattle.ntt_partial_checks.specs.Checks.{sizeNumber, partialAnswer}
+use Rattle.ntt_partial.specs.Calls.{partialRecovered, partialInverseLeft}
 use Rattle.ntt_partial.proofs.Accepted.{Accepted, call-accepted, call-wide, wide-recovered, rows-few, rows-within}
 use borrow.Author.Needs.{needs}
 use Rattle.ntt_partial.proofs.inverse.Statement.{statement}

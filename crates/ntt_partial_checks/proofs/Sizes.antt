@@ -11,7 +11,7 @@ use Rattle.sets.specs.declared.Parameters.{Parameters}
 use Rattle.sets.specs.Derived.{transformSize}
 use Rattle.sets.specs.Rules.{Rules}
 use Rattle.sets.proofs.Transforms.{first-size, second-size, third-size}
-use Rattle.ntt_partial.specs.Calls.{sizeNumber}
+use Rattle.ntt_partial_checks.specs.Checks.{sizeNumber}
 
 -- a product of a number above 4,096 is 0 or above 4,096
 no-product : (a b D : ℕ) → 4096 < a → 0 < D → D ≤ 4096 → a * b ≡ D → ⊥

@@ -10,10 +10,10 @@ use Rattle.sets.specs.declared.Parameters.{Parameters}
 use Rattle.sets.specs.Table.{lastSet, setOf}
 use Rattle.sets.proofs.Rules.{rules}
 use Rattle.sets.proofs.Transforms.{size-most}
-use Rattle.ntt_partial.specs.Calls.{sizeNumber, partialAnswer}
-use Rattle.ntt_partial.proofs.Sizes.{size-found}
-use Rattle.ntt_partial.proofs.checked.Statement.{statement}
-use Rattle.ntt_partial.proofs.checked.Tie as tie
+use Rattle.ntt_partial_checks.specs.Checks.{sizeNumber, partialAnswer}
+use Rattle.ntt_partial_checks.proofs.Sizes.{size-found}
+use Rattle.ntt_partial_checks.proofs.checked.Statement.{statement}
+use Rattle.ntt_partial_checks.proofs.checked.Tie as tie
 
 returns : tie.Need-returns
 unfolding partialAnswer

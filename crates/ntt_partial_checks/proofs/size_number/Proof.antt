@@ -4,9 +4,9 @@ use mathlib.Core.Path.{sym}
 use Prim.Native.Nat.{_*_, _≤_}
 use native.Mathlib.Nat.{mul-le-mul}
 use native.Mathlib.Omega.{arith}
-use Rattle.ntt_partial.proofs.Sizes.{size-none, size-large, size-wide, size-one, size-two, size-three}
-use Rattle.ntt_partial.proofs.size_number.Statement.{statement}
-use Rattle.ntt_partial.proofs.size_number.Tie as tie
+use Rattle.ntt_partial_checks.proofs.Sizes.{size-none, size-large, size-wide, size-one, size-two, size-three}
+use Rattle.ntt_partial_checks.proofs.size_number.Statement.{statement}
+use Rattle.ntt_partial_checks.proofs.size_number.Tie as tie
 
 returns : tie.Need-returns
 returns c = let start = c .before in sym (size-large (start .args .p) (start .pre) (start .args .rows) (start .args .row) (c .if1 .taken))
