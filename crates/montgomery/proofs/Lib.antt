@@ -1,4 +1,5 @@
 pub mod Newton
 pub mod Scaled
 pub mod Reduction
+pub mod Lazy
 pub mod Laws

@@ -30,11 +30,6 @@ pub unscale-back : (q x : ℕ) → Mod q (unscale q x) (x * back q)
 unfolding unscale back
 unscale-back q x = mod-remainder q (x * ((q + 1) / 2) ^ 32)
 
--- the same, written out
-pub unscale-mod : (q x : ℕ) → Mod q (unscale q x) (x * ((q + 1) / 2) ^ 32)
-unfolding unscale
-unscale-mod q x = mod-remainder q (x * ((q + 1) / 2) ^ 32)
-
 -- what is unscaled is a residue
 pub unscale-below : {q : ℕ} (x : ℕ) → 0 < q → unscale q x < q
 unfolding unscale
@@ -107,3 +102,25 @@ pub unscale-twice-one : {q : ℕ} → Odd q → (t : ℕ) → Mod q (unscale q t
 unscale-twice-one {q} o t =
     let one : 2 ^ 64 ≡ 1 * 2 ^ 64 = refl in
     mod-trans (unscale-twice o t (2 ^ 64 % q) 1 (mod-trans (mod-remainder q (2 ^ 64)) (mod-eq one))) (mod-eq (mul-one t))
+
+-- 2^128 is 2^32 four times
+fourfold : (e a : ℕ) → e * (a * a * a * a) ≡ e * a * a * a * a
+fourfold e a = omega arith
+
+pub four-scales : (e : ℕ) → e * 2 ^ 128 ≡ e * 2 ^ 32 * 2 ^ 32 * 2 ^ 32 * 2 ^ 32
+four-scales e = fourfold e (2 ^ 32)
+
+-- one division takes away one factor 2^32
+divided : {q x y : ℕ} → Odd q → Mod q x (y * 2 ^ 32) → Mod q (x * back q) y
+divided {q} {y = y} o h = mod-trans (mod-mul h (mod-refl (back q))) (cancelled o y)
+
+-- all four divisions beside the factor
+regrouped : (t f u : ℕ) → t * (u * u * u) * (f * u) ≡ t * (f * u * u * u * u)
+regrouped t f u = omega arith
+
+-- a factor f that makes up for three divisions by 2^32 of t and for its own: it has the factor 2^128
+pub unscale-fourfold : {q : ℕ} → Odd q → (t f e : ℕ) → Mod q f (e * 2 ^ 128) → Mod q (t * (back q * back q * back q) * unscale q f) (t * e)
+unscale-fourfold {q} o t f e h =
+    let u = back q in
+    let four : Mod q (f * u * u * u * u) e = divided o (divided o (divided o (divided o (mod-trans h (mod-eq (four-scales e)))))) in
+    mod-trans (mod-mul (mod-refl (t * (u * u * u))) (unscale-back q f)) (mod-trans (mod-eq (regrouped t f u)) (mod-mul (mod-refl t) four))

@@ -1,7 +1,7 @@
-// Products modulo an odd q by Montgomery's reduction with 2^32: no division, and what comes out is below 2 · q.
+// Products modulo an odd q by Montgomery's reduction with 2^32 (003 section 3.4.2): no division by q, and what comes out is below 2 · q.
 ghost use mathlib.Core.Path.{_≡_};
 ghost use Prim.Native.Nat.{_+_, _*_, _%_, _^_, _<_};
-ghost use Rattle.montgomery.specs.Scaled.{unscale, newtonStep, Odd, Modulus};
+ghost use Rattle.montgomery.specs.Scaled.{unscale, newtonStep, lazy, lazyLong, Odd, Modulus};
 
 // One step of Newton's method for the negated inverse of q.
 fn newton_step(q: u32, b: u32) -> u32
@@ -23,11 +23,11 @@ pub fn negated_inverse(q: u32) -> u32
     newton_step(q, sixteen_bits)
 }
 
-// x divided by 2^32 modulo q, where `k` is the negated inverse of q: x + m · q is a multiple of 2^32. The remainder of q by 2^31, which is q, tells
-// the compiler that one multiplication of 32 bits does.
+// The smallest reduction step, 003's algorithm 43: x divided by 2^32 modulo q, where `k` is the negated inverse of q, since x + m · q is a multiple of 2^32.
+// What it gives is below 2 · q, and may be q or more. The remainder of q by 2^31, which is q, tells the compiler that one multiplication of 32 bits does.
 pub fn step(x: u64, q: u32, k: u32) -> u32
     requires { ⌜ Modulus q k × (x < q * 2 ^ 32) ⌝ }
-    ensures { λ r. ⌜ (r % q ≡ unscale q x) × (r < 2 * q) ⌝ }
+    ensures { λ r. ⌜ (r % q ≡ unscale q x) × (r < 2 * q) × (r ≡ lazy q x) ⌝ }
 {
     let m = x % 4294967296 * (k as u64) % 4294967296;
     ((x + m * ((q % 2147483648) as u64)) / 4294967296) as u32
@@ -44,9 +44,18 @@ pub fn whole_product(a: u32, w: u32) -> u64
 // The product of any number of 32 bits and the number that the residue `w` is the scaled form of.
 pub fn product(a: u32, w: u32, q: u32, k: u32) -> u32
     requires { ⌜ Modulus q k × (w < q) ⌝ }
-    ensures { λ r. ⌜ (r % q ≡ a * unscale q w % q) × (r < 2 * q) ⌝ }
+    ensures { λ r. ⌜ (r % q ≡ a * unscale q w % q) × (r < 2 * q) × (r ≡ lazy q (a * w)) ⌝ }
 {
     step(whole_product(a, w), q, k)
+}
+
+// Any number of 64 bits divided by 2^32 modulo q, in two steps: a product with `s`, the remainder of 2^64, keeps the place of the upper 32 bits.
+pub fn long_step(x: u64, s: u32, q: u32, k: u32) -> u32
+    requires { ⌜ Modulus q k × (s ≡ 2 ^ 64 % q) ⌝ }
+    ensures { λ r. ⌜ (r % q ≡ unscale q x) × (r < 2 * q) × (r ≡ lazyLong q x) ⌝ }
+{
+    let upper = product((x / 4294967296) as u32, s, q, k) as u64;
+    step(upper + x % 4294967296, q, k)
 }
 
 // 1 in scaled form.

@@ -98,7 +98,7 @@ pub fn inverse(x: &mut [u32], tables: &[u32], by: u32, m: usize, rows: usize, q:
     let end = m * 256;
     inverse_rows(x, tables, rows, q, k);
     ntt_columns::columns(x, &tables[columns..], rows, m, rows, q, k);
-    ntt_rows::settle(&mut x[0..end], by, q, k);
+    ntt_settle::settle(&mut x[0..end], by, q, k);
 }
 
 // The sum of the numbers of column `c`.
@@ -121,5 +121,5 @@ pub fn first_row_place(x: &[u32], c: usize, by: u32, rows: usize, q: u32, k: u32
     ensures { λ r. ⌜ r ≡ firstRowAt q by rows (now (x .entry)) c ⌝ }
 {
     let total = column_total(x, c, rows);
-    residues::reduce_once(montgomery::product(total, by, q, k), q)
+    ntt_settle::settle_number(total, by, q, k)
 }

@@ -30,6 +30,10 @@ one-number sizes other = elim (sizes .row) [ inl wide ↦ absurd (other wide) | 
 pub powers : (tables : List ℕ) (rows : ℕ) → take (rows - 0) tables ≡ region tables 0 rows
 powers tables rows = region-part tables 0 rows rows (sym (zero-add rows))
 
+-- residues are below 2 · q
+pub doubled : {q n : ℕ} {xs : List ℕ} → AllBelow q n xs → AllBelow (2 * q) n xs
+doubled below = record { each = λ i h. omega (arith, below .each i h) }
+
 -- the front of a list into which another was copied
 pub copied : {buffer : List ℕ} (zeros ys : List ℕ) (n : ℕ) → buffer ≡ over zeros 0 ys → length ys ≡ n → n ≤ length zeros → take n buffer ≡ ys
 copied zeros ys n e size fits =
@@ -121,13 +125,12 @@ module _ {q ρ δ : ℕ} (other : ρ ≡ 256 → ⊥) where
     plain-of : (ys : List ℕ) → length ys ≤ δ → AllBelow q (length ys) ys → Plain q 1 (region tables 0 δ) ys
     plain-of ys fits below =
         record {
-          some-modulus = lent .sizes .modulus .some;
-          modulus = lent .sizes .modulus .small;
+          modulus = lent .sizes .modulus;
           some-columns = omega arith;
           columns-fit = rw powers-length (lent .sizes .some-rows);
           size = rw powers-length fits;
           few = rw powers-length (omega (arith, lent .sizes .few-rows));
-          numbers = below;
+          numbers = doubled below;
           factors = powers-below;
         }
 
@@ -174,10 +177,6 @@ module _ {q ρ δ : ℕ} (other : ρ ≡ 256 → ⊥) where
       unfolding transforms.recover
       plain-recovered e m fits recovered =
           ap (take m) (rw powers-length at (recovered table whole)) ∙ rw one (tabulate-take m δ _ (rw (one, mul-one) at fits))
-
--- residues are below 2 · q
-pub doubled : {q n : ℕ} {xs : List ℕ} → AllBelow q n xs → AllBelow (2 * q) n xs
-doubled below = record { each = λ i h. omega (arith, below .each i h) }
 
 -- what the scale of an inverse transform is congruent to
 pub scale-of : {by : ℕ} (q e : ℕ) → by ≡ e * (2 ^ 64 % q) % q → Mod q by (e * 2 ^ 64)

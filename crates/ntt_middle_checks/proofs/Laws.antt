@@ -29,12 +29,14 @@ module _ (set a b d work : ℕ) (after : Outcome) where
   checked-room h e l = rw (le-ltb lastSet set h, e, lt-ltb (setOf set .d3) b l)
 
   -- all lengths pass
-  pub checked-passed : set ≤ lastSet → allOf (transformedShape (setOf set .d3) a b d work) ≡ true → b ≤ setOf set .d3 → lengthsChecked set a b d work after ≡ after
+  pub checked-passed : set ≤ lastSet → allOf (transformedShape (setOf set .d3) a b d work) ≡ true → b ≤ setOf set .d3
+      → lengthsChecked set a b d work after ≡ after
   unfolding lengthsChecked
   checked-passed h e l = rw (le-ltb lastSet set h, e, le-ltb (setOf set .d3) b l)
 
 -- three checks, and then what comes after
-three-then : (a b c : Bool) (after : Outcome) → refuse a 1 0 (refuse b 6 0 (refuse c 7 0 after)) ≡ andThen (refuse a 1 0 (refuse b 6 0 (refuse c 7 0 accepted))) after
+three-then : (a b c : Bool) (after : Outcome)
+    → refuse a 1 0 (refuse b 6 0 (refuse c 7 0 after)) ≡ andThen (refuse a 1 0 (refuse b 6 0 (refuse c 7 0 accepted))) after
 three-then true b c after = refl
 three-then false true c after = refl
 three-then false false true after = refl

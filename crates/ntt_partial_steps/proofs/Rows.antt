@@ -15,7 +15,7 @@ use Rattle.sets.specs.Table.{setOf, IsSet}
 use Rattle.sets.proofs.Rules.{rules}
 use Rattle.sets.proofs.Transforms.{size-most}
 use Rattle.ntt_plain.specs.Plain.{Plain}
-use Rattle.ntt_products.proofs.Laws.{least-size}
+use Rattle.ntt_products.proofs.Laws.{rules-odd, least-size}
 use Rattle.calls.specs.Region.{over}
 use Rattle.calls.proofs.Region.{over-front, over-length}
 use Rattle.sets.specs.Derived.{transformSize}
@@ -57,13 +57,12 @@ module _ {set i D1 D2 m : ℕ} {input : List ℕ} (low : IsSet set) (split : Spl
   plain-of powers x w table fits below =
       let long : length powers ≡ D1 * D2 = ap length table ∙ powerTable-length (setOf set .q) w (D1 * D2) in
       record {
-        some-modulus = rules set low .prime .above;
-        modulus = rules set low .small;
+        modulus = rules-odd (setOf set) (rules set low);
         some-columns = some-columns;
         columns-fit = rw long columns-fit;
         size = rw long fits;
         few = rw long size-few;
-        numbers = below;
+        numbers = record { each = λ j h. omega (arith, below .each j h) };
         factors = record {
           each = λ j h.
               rw (table, powerTable-at (setOf set .q) w (D1 * D2) j (rw long at h)) (mod-lt _ (omega (arith, rules set low .prime .above)));

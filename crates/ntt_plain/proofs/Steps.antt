@@ -8,7 +8,7 @@ use native.Mathlib.Nat.{mod-eq-of-lt, le-of-lt, lt-of-le-of-lt, mul-le-mul-left,
 use native.Mathlib.Omega.{arith}
 use lib.Arith.{digits-lt, digits-div, digits-mod}
 use lib.ListN.{length}
-use Rattle.maths.specs.Vector.{at}
+use Rattle.maths.specs.Vector.{at, AllBelow}
 use Rattle.maths.specs.Congruence.{Mod}
 use Rattle.maths.specs.Root.{powerTable}
 use Rattle.maths.specs.Transform as maths
@@ -56,12 +56,9 @@ pub scaled-at : (q e : ℕ) (x : List ℕ) (i : ℕ) → i < length x → at (sc
 unfolding scaled
 scaled-at q e x i h = tabulate-at (length x) _ i h
 
--- the lengths of what stands between columns and rows
-pub columns-twisted-length : (q ρ m places : ℕ) (powers x : List ℕ) → length (twisted q ρ powers (columns q ρ m places powers x)) ≡ places
+-- the length of what stands between columns and rows
+columns-twisted-length : (q ρ m places : ℕ) (powers x : List ℕ) → length (twisted q ρ powers (columns q ρ m places powers x)) ≡ places
 columns-twisted-length q ρ m places powers x = twisted-length q ρ powers _ ∙ columns-length q ρ m places powers x
-
-pub rows-twisted-length : (q ρ δ : ℕ) (powers x : List ℕ) → length (twisted q ρ powers (rows q ρ δ powers x)) ≡ length x
-rows-twisted-length q ρ δ powers x = twisted-length q ρ powers _ ∙ rows-length q ρ δ powers x
 
 -- a row times a column is below the size
 product-below-sizes : {δ ρ r c : ℕ} → r < δ → c < ρ → r * c < δ * ρ
@@ -92,8 +89,8 @@ module _ {q ρ : ℕ} {powers x : List ℕ} (plain : Plain q ρ powers x) where
         short = omega (arith, plain .columns-fit, plain .few);
         some-powers = omega (arith, row-start ρ i);
         few-powers = omega (arith, plain .few);
-        numbers = record { each = λ j l. omega (arith, plain .numbers .each j l, plain .modulus) };
-        factors = record { each = λ j l. omega (arith, plain .factors .each j l, plain .modulus) };
+        numbers = record { each = λ j l. omega (arith, plain .numbers .each j l, plain .modulus .small) };
+        factors = record { each = λ j l. omega (arith, plain .factors .each j l, plain .modulus .small) };
       }
 
   -- the sum of a row may be written out
@@ -107,39 +104,22 @@ module _ {q ρ : ℕ} {powers x : List ℕ} (plain : Plain q ρ powers x) where
         short = omega arith;
         some-powers = rw (same, long, mul-comm δ ρ) (mul-lt-mul-of-pos-right (mod-lt i (plain .some-columns)) (omega arith));
         few-powers = omega (arith, plain .few);
-        numbers = record { each = λ j l. omega (arith, plain .numbers .each j l, plain .modulus) };
-        factors = record { each = λ j l. omega (arith, plain .factors .each j l, plain .modulus) };
+        numbers = record { each = λ j l. omega (arith, plain .numbers .each j l, plain .modulus .small) };
+        factors = record { each = λ j l. omega (arith, plain .factors .each j l, plain .modulus .small) };
       }
 
-  -- other residues, in the same rows
-  plain-of : (y : List ℕ) → length y ≤ length powers → ((i : ℕ) → i < length y → at y i < q) → Plain q ρ powers y
-  plain-of y fits below =
+  -- other numbers, in the same rows
+  pub plain-of : {y : List ℕ} → length y ≤ length powers → AllBelow (2 * q) (length y) y → Plain q ρ powers y
+  plain-of fits below =
       record {
-        some-modulus = plain .some-modulus;
         modulus = plain .modulus;
         some-columns = plain .some-columns;
         columns-fit = plain .columns-fit;
         size = fits;
         few = plain .few;
-        numbers = record { each = below };
+        numbers = below;
         factors = plain .factors;
       }
-
-  -- each step gives residues
-  pub columns-plain : (m places : ℕ) → places ≤ length powers → Plain q ρ powers (columns q ρ m places powers x)
-  columns-plain m places fits =
-      plain-of _ (rw columns-length fits)
-      (λ i h. rw (columns-at q ρ m places powers x i (rw columns-length at h)) (mod-lt _ (omega (arith, plain .some-modulus))))
-
-  pub twisted-plain : Plain q ρ powers (twisted q ρ powers x)
-  twisted-plain =
-      plain-of _ (rw twisted-length (plain .size))
-      (λ i h. rw (twisted-at q ρ powers x i (rw twisted-length at h)) (mod-lt _ (omega (arith, plain .some-modulus))))
-
-  pub rows-plain : (δ : ℕ) → Plain q ρ powers (rows q ρ δ powers x)
-  rows-plain δ =
-      plain-of _ (rw rows-length (plain .size))
-      (λ i h. rw (rows-at q ρ δ powers x i (rw rows-length at h)) (mod-lt _ (omega (arith, plain .some-modulus))))
 
 -- a root's powers in rows of ρ
 pub record RootPowers (q ρ δ w : ℕ) (powers : List ℕ) : Type 0 where

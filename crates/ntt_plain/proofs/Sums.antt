@@ -9,7 +9,7 @@ use native.Mathlib.Omega.{arith}
 use lib.ListN.{length}
 use Rattle.maths.specs.Vector.{at}
 use Rattle.maths.proofs.Sum.{sum-none, sum-last}
-use Rattle.residues.proofs.Laws.{product-below}
+use Rattle.montgomery.proofs.Laws.{product-below}
 use Rattle.ntt_plain.specs.Plain.{stridedSum, Summable}
 
 -- the sum after j products, the places of the next number and of its power, and room in 64 bits
@@ -19,7 +19,7 @@ pub record Summing (x : List ℕ) (first stride count : ℕ) (powers : List ℕ)
   pub next-power : power ≡ step * j % length powers
   pub power-below : power < length powers
   pub sum-so-far : total ≡ stridedSum x first stride j powers step
-  pub room : total ≤ j * 2 ^ 48
+  pub room : total ≤ j * 2 ^ 49
 
 module _ {x : List ℕ} {first stride count : ℕ} {powers : List ℕ} {step : ℕ} (ready : Summable x first stride count powers step) where
   -- before the first product
@@ -35,9 +35,9 @@ module _ {x : List ℕ} {first stride count : ℕ} {powers : List ℕ} {step : �
         room = omega arith;
       }
 
-  -- a product is below 2^48
-  pub term-below : (j power : ℕ) → j < count → power < length powers → at x (first + stride * j) * at powers power < 2 ^ 48
-  term-below j power h k = product-below {b = 2 ^ 24} (ready .numbers .each _ (ready .places j h)) (ready .factors .each power k)
+  -- a product is below 2^49
+  pub term-below : (j power : ℕ) → j < count → power < length powers → at x (first + stride * j) * at powers power < 2 ^ 49
+  term-below j power h k = product-below {b = 2 ^ 25} {d = 2 ^ 24} (ready .numbers .each _ (ready .places j h)) (ready .factors .each power k)
 
   -- one more product
   pub summing-more : {total place power j : ℕ} (term after : ℕ) → Summing x first stride count powers step total place power j → j < count
@@ -46,7 +46,7 @@ module _ {x : List ℕ} {first stride count : ℕ} {powers : List ℕ} {step : �
       → Summing x first stride count powers step (total + term) (place + stride) after (j + 1)
   unfolding stridedSum
   summing-more {total} {place} {power} {j} term after s h e a =
-      let small : term < 2 ^ 48 = rw (e, s .next) (term-below j power h (s .power-below)) in
+      let small : term < 2 ^ 49 = rw (e, s .next) (term-below j power h (s .power-below)) in
       record {
         within = omega arith;
         next = rw (add-one, mul-suc) (omega (arith, s .next));

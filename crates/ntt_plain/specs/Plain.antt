@@ -1,5 +1,5 @@
 -- The transform of δ rows of ρ numbers by written-out sums, for any δ and ρ: columns, twist and rows (003 section 3.2.2, algorithm 36), and back
--- (algorithm 37).
+-- (algorithm 37); and what the steps bear and give where a number is kept below 2 · q.
 -- Assumes nothing.
 use mathlib.Core.Path.{_≡_, refl}
 use mathlib.Core.List.{List, [], _∷_}
@@ -9,6 +9,8 @@ use Rattle.maths.specs.Vector as vectors
 use Rattle.maths.specs.Vector.{at, tabulate, AllBelow}
 use Rattle.maths.specs.Sum as sums
 use Rattle.maths.specs.Sum.{sum}
+use Rattle.maths.specs.Congruence.{Mod}
+use Rattle.montgomery.specs.Scaled.{unscale, Odd}
 
 -- the sum of count numbers, stride places apart from first on, each times a power of the root; the table of powers goes round
 unfoldable pub stridedSum : List ℕ → ℕ → ℕ → ℕ → List ℕ → ℕ → ℕ
@@ -22,7 +24,7 @@ pub record Summable (x : List ℕ) (first stride count : ℕ) (powers : List ℕ
   pub short : stride ≤ 4096
   pub some-powers : step < length powers
   pub few-powers : length powers ≤ 4096
-  pub numbers : AllBelow (2 ^ 24) (length x) x
+  pub numbers : AllBelow (2 ^ 25) (length x) x
   pub factors : AllBelow (2 ^ 24) (length powers) powers
 
 -- the values of the transforms of the columns, as many rows of them as fill `places`; x has m rows of ρ numbers
@@ -41,16 +43,21 @@ rows q ρ δ powers x = tabulate (length x) (λ i. stridedSum x (i / ρ * ρ) 1 
 unfoldable pub scaled : ℕ → ℕ → List ℕ → List ℕ
 scaled q e x = tabulate (length x) (λ i. e * at x i % q)
 
--- residues in rows of ρ numbers, at most as many as there are powers of the root
+-- numbers below 2 · q in rows of ρ, at most as many as there are powers of the root
 pub record Plain (q ρ : ℕ) (powers x : List ℕ) : Type 0 where
-  pub some-modulus : 1 < q
-  pub modulus : q < 2 ^ 24
+  pub modulus : Odd q
   pub some-columns : 0 < ρ
   pub columns-fit : ρ ≤ length powers
   pub size : length x ≤ length powers
   pub few : length powers ≤ 3328
-  pub numbers : AllBelow q (length x) x
+  pub numbers : AllBelow (2 * q) (length x) x
   pub factors : AllBelow q (length powers) powers
+
+-- numbers below 2 · q, each congruent to the exact one divided by 2^32
+pub record Lazily (q : ℕ) (exact got : List ℕ) : Type 0 where
+  pub kept : length got ≡ length exact
+  pub below : AllBelow (2 * q) (length got) got
+  pub values : (i : ℕ) → i < length exact → Mod q (at got i) (unscale q (at exact i))
 
 -- (1, 2, 3, 4) modulo 17 in rows of two, with the root 4 of order 4: the columns (1, 3) and (2, 4)
 columns-example : columns 17 2 2 4 (1 ∷ 4 ∷ 16 ∷ 13 ∷ []) (1 ∷ 2 ∷ 3 ∷ 4 ∷ []) ≡ 4 ∷ 6 ∷ 15 ∷ 15 ∷ []

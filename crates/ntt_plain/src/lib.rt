@@ -1,13 +1,14 @@
-// The number theoretic transform of any number of rows of any length by written-out sums, for any modulus below 2^24: columns, twist and rows (003 section
-// 3.2.2, algorithms 36 and 37). Rows of other lengths than 256 go this way, those of set 0 among them.
+// The number theoretic transform of any number of rows of any length by written-out sums, for any odd modulus below 2^24: columns, twist and rows (003
+// section 3.2.2, algorithms 36 and 37). Rows of other lengths than 256 go this way, those of set 0 among them. Each step divides by 2^32 on the way and keeps
+// its numbers below 2 · q; residues are made once, at the end, by a factor that makes up for these divisions.
 ghost use mathlib.Core.Path.{_≡_};
-ghost use Prim.Native.Nat.{ℕ, _+_, _*_, _/_, _%_, _^_, _≤_, _<_};
+ghost use Prim.Native.Nat.{ℕ, _*_, _/_, _%_, _^_, _≤_, _<_};
 ghost use lib.ListN.{length};
-ghost use Rattle.maths.specs.Vector.{AllBelow};
 ghost use Rattle.maths.specs.Root.{powerTable};
 ghost use Rattle.maths.specs.Congruence.{Mod};
 ghost use Rattle.maths.specs.Transform.{send, recover};
-ghost use Rattle.ntt_plain.specs.Plain.{stridedSum, Summable, columns, twisted, rows, scaled, Plain};
+ghost use Rattle.montgomery.specs.Scaled.{Modulus};
+ghost use Rattle.ntt_plain.specs.Plain.{stridedSum, Summable, columns, twisted, rows, Plain, Lazily};
 
 // The sum of `count` numbers, `stride` places apart from `first` on, each times a power of the root; the exponents are `step` apart.
 fn strided_sum(
@@ -34,15 +35,25 @@ fn strided_sum(
     total
 }
 
-// Fills `to` with values of the transforms of the columns of `x`, which has `m` rows.
-fn fill_columns(to: &mut [u32], x: &[u32], powers: &[u32], m: usize, row: usize, q: u32)
-    requires { ⌜ Plain q row (now powers) (now x) × (length (now x) ≡ m * row) × (length (now to) ≤ length (now powers)) ⌝ }
-    ensures { λ _. ⌜ now (to .exit) ≡ columns q row m (length (now (to .entry))) (now (powers .entry)) (now (x .entry)) ⌝ }
+// Fills `to` with values of the transforms of the columns of `x`, which has `m` rows; `k` is the negated inverse of q, `s` the remainder of 2^64.
+fn fill_columns(
+    to: &mut [u32],
+    x: &[u32],
+    powers: &[u32],
+    m: usize,
+    row: usize,
+    q: u32,
+    k: u32,
+    s: u32,
+)
+    requires { ⌜ Plain q row (now powers) (now x) × (length (now x) ≡ m * row) × (length (now to) ≤ length (now powers))
+        × Modulus q k × (s ≡ 2 ^ 64 % q) ⌝ }
+    ensures { λ _. ⌜ Lazily q (columns q row m (length (now (to .entry))) (now (powers .entry)) (now (x .entry))) (now (to .exit)) ⌝ }
 {
     let mut i: usize = 0;
     while i < to.len() {
         let sum = strided_sum(x, i % row, row, m, powers, i / row * row);
-        to[i] = residues::reduce(sum, q);
+        to[i] = montgomery::long_step(sum, s, q, k);
         i += 1;
     }
 }
@@ -56,42 +67,50 @@ fn twist_exponent(i: usize, row: usize) -> usize
 }
 
 // Multiplies each number by the power of its row and column.
-fn twist(x: &mut [u32], powers: &[u32], row: usize, q: u32)
-    requires { ⌜ Plain q row (now powers) (now x) ⌝ }
-    ensures { λ _. ⌜ now (x .exit) ≡ twisted q row (now (powers .entry)) (now (x .entry)) ⌝ }
+fn twist(x: &mut [u32], powers: &[u32], row: usize, q: u32, k: u32)
+    requires { ⌜ Plain q row (now powers) (now x) × Modulus q k ⌝ }
+    ensures { λ _. ⌜ Lazily q (twisted q row (now (powers .entry)) (now (x .entry))) (now (x .exit)) ⌝ }
 {
     let mut i: usize = 0;
     while i < x.len() {
         let exponent = twist_exponent(i, row);
-        x[i] = residues::multiply(x[i], powers[exponent], q);
+        x[i] = montgomery::product(x[i], powers[exponent], q, k);
         i += 1;
     }
 }
 
 // Fills `to` with the transform of each row of `x`.
-fn fill_rows(to: &mut [u32], x: &[u32], powers: &[u32], count: usize, row: usize, q: u32)
+fn fill_rows(
+    to: &mut [u32],
+    x: &[u32],
+    powers: &[u32],
+    count: usize,
+    row: usize,
+    q: u32,
+    k: u32,
+    s: u32,
+)
     requires { ⌜ Plain q row (now powers) (now x) × (length (now x) ≡ count * row) × (length (now powers) ≡ length (now x))
-        × (length (now to) ≡ length (now x)) ⌝ }
-    ensures { λ _. ⌜ now (to .exit) ≡ rows q row count (now (powers .entry)) (now (x .entry)) ⌝ }
+        × (length (now to) ≡ length (now x)) × Modulus q k × (s ≡ 2 ^ 64 % q) ⌝ }
+    ensures { λ _. ⌜ Lazily q (rows q row count (now (powers .entry)) (now (x .entry))) (now (to .exit)) ⌝ }
 {
     let mut i: usize = 0;
     while i < to.len() {
         let sum = strided_sum(x, i / row * row, 1, row, powers, i % row * count);
-        to[i] = residues::reduce(sum, q);
+        to[i] = montgomery::long_step(sum, s, q, k);
         i += 1;
     }
 }
 
-// Multiplies each number by `e`.
-fn scale(x: &mut [u32], e: u32, q: u32)
-    requires { ⌜ AllBelow q (length (now x)) (now x) × (e < q) × (q < 2 ^ 24) ⌝ }
-    ensures { λ _. ⌜ now (x .exit) ≡ scaled q e (now (x .entry)) ⌝ }
+// The factor that the numbers are settled with: `e`, with what makes up for the divisions by 2^32 of three steps and of the settling.
+fn settling_factor(e: u32, s: u32, q: u32, k: u32) -> u32
+    requires { ⌜ Modulus q k × (s ≡ 2 ^ 64 % q) ⌝ }
+    ensures { λ r. ⌜ (r < q) × Mod q r (e * 2 ^ 128) ⌝ }
 {
-    let mut i: usize = 0;
-    while i < x.len() {
-        x[i] = residues::multiply(e, x[i], q);
-        i += 1;
-    }
+    let once = montgomery::product(e, s, q, k);
+    let twice = montgomery::product(once, s, q, k);
+    let thrice = montgomery::product(twice, s, q, k);
+    ntt_settle::settle_number(thrice, s, q, k)
 }
 
 // The transform of `m` rows, stored in the order of 003; `between` is lent for what comes before the rows.
@@ -110,9 +129,13 @@ pub fn forward_with_buffer(
     ensures { λ _. ⌜ ((w : ℕ) → now (powers .entry) ≡ powerTable q w (length (now (powers .entry))) → Mod q (w ^ length (now (powers .entry))) 1
         → now (out .exit) ≡ send q row count w (now (x .entry))) ⌝ }
 {
-    fill_columns(between, x, powers, m, row, q);
-    twist(between, powers, row, q);
-    fill_rows(out, between, powers, count, row, q);
+    let k = montgomery::negated_inverse(q);
+    let s = montgomery::scaled_scale(q);
+    let by = settling_factor(1, s, q, k);
+    fill_columns(between, x, powers, m, row, q, k, s);
+    twist(between, powers, row, q, k);
+    fill_rows(out, between, powers, count, row, q, k, s);
+    ntt_settle::settle(out, by, q, k);
 }
 
 // The first rows of what a stored vector was made from, as many as `out` has, each number times `e`: the transform with the root whose powers are lent.
@@ -131,10 +154,13 @@ pub fn inverse_with_buffer(
     ensures { λ _. ⌜ ((w m : ℕ) → now (powers .entry) ≡ powerTable q w (length (now (powers .entry))) → Mod q (w ^ length (now (powers .entry))) 1
         → length (now (out .entry)) ≡ m * row → m ≤ count → now (out .exit) ≡ recover q row count w e (m * row) (now (x .entry))) ⌝ }
 {
-    fill_rows(between, x, powers, count, row, q);
-    twist(between, powers, row, q);
-    fill_columns(out, between, powers, count, row, q);
-    scale(out, e, q);
+    let k = montgomery::negated_inverse(q);
+    let s = montgomery::scaled_scale(q);
+    let by = settling_factor(e, s, q, k);
+    fill_rows(between, x, powers, count, row, q, k, s);
+    twist(between, powers, row, q, k);
+    fill_columns(out, between, powers, count, row, q, k, s);
+    ntt_settle::settle(out, by, q, k);
 }
 
 // The transform of `m` rows of `row` numbers, with zeros for the others of `count` rows, stored in the order of 003: row `r`, column `c` is value

@@ -15,26 +15,22 @@ use Rattle.maths.proofs.Congruence.{mod-refl, mod-eq, mod-sym, mod-trans, mod-m
 use Rattle.maths.proofs.Convolution.{transform-mod}
 use Rattle.maths.proofs.Transform.{invPerm-at, invPerm-below, send-length, send-at, recover-length, recover-at, transform-scale}
 use Rattle.montgomery.specs.Scaled.{scale, unscale, Odd}
-use Rattle.montgomery.proofs.Laws.{unscale-mod, unscale-cong, unscale-scale}
+use Rattle.montgomery.proofs.Laws.{back, unscale-back, unscale-cong, unscale-scale}
 use Rattle.ntt_products.specs.Stored.{unscaled}
 use Rattle.ntt_products.proofs.Pointwise.{unscaled-length, unscaled-at}
 
--- the factor that is lacking: the inverse of 2^32
-abbrev back : ℕ → ℕ
-back q = ((q + 1) / 2) ^ 32
-
--- a product with a number that is taken for one in scaled form lacks it
+-- a product with a number that is taken for one in scaled form lacks a factor 2^32
 pub unscaled-product : (q a b : ℕ) → Mod q (a * unscale q b % q) (back q * (a * b))
 unscaled-product q a b =
     let moved : a * (b * back q) ≡ back q * (a * b) = omega arith in
-    mod-trans (mod-remainder q (a * unscale q b)) (mod-trans (mod-mul (mod-refl a) (unscale-mod q b)) (mod-eq moved))
+    mod-trans (mod-remainder q (a * unscale q b)) (mod-trans (mod-mul (mod-refl a) (unscale-back q b)) (mod-eq moved))
 
 -- the scaled form of e makes up for it
 made-up : {q : ℕ} → Odd q → (e t : ℕ) → Mod q (scale q e * (back q * t)) (e * t)
 made-up {q} o e t =
     let moved : scale q e * (back q * t) ≡ scale q e * back q * t = omega arith in
     let once : Mod q (scale q e * back q) e =
-    mod-trans (mod-sym (unscale-mod q (scale q e))) (mod-trans (mod-eq (unscale-scale o e)) (mod-remainder q e)) in
+    mod-trans (mod-sym (unscale-back q (scale q e))) (mod-trans (mod-eq (unscale-scale o e)) (mod-remainder q e)) in
     mod-trans (mod-eq moved) (mod-mul once (mod-refl t))
 
 -- so what lacks it at every place is recovered with the scaled form of e as the whole is with e

@@ -49,7 +49,7 @@ fn scale_first(x: &mut [u32], n: usize, q: u32)
 {
     let by = montgomery::scaled_scale(q);
     let k = montgomery::negated_inverse(q);
-    ntt_rows::settle(&mut x[0..n], by, q, k);
+    ntt_settle::settle(&mut x[0..n], by, q, k);
 }
 
 // The size of transform number i of a set.

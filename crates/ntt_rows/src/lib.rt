@@ -1,10 +1,5 @@
 // The transform of a row of 256 numbers as 16 columns of 16 numbers, a twist and 16 rows of 16 (003 section 3.2.2, applied to a row), and the rows of a
 // whole transform, forward and inverse.
-ghost use mathlib.Core.Path.{_≡_};
-ghost use Prim.Native.Nat.{_*_, _%_, _<_};
-ghost use lib.ListN.{length};
-ghost use Rattle.maths.specs.Vector.{at, tabulate};
-ghost use Rattle.montgomery.specs.Scaled.{unscale, Modulus};
 ghost use Rattle.ntt_rows.specs.Rows.{RowReady, Row, MultiplyReady, Multiplied, ForwardReady, ForwardRow, InverseReady, InverseRow};
 
 // Multiplies each number by the number that `by` has the scaled form of at its place.
@@ -32,18 +27,6 @@ fn transform_row(to: &mut [u32], from: &[u32], tables: &[u32], q: u32, k: u32)
     ntt_steps::sixteen(to, &numbers, &tables[256..264], q, k);
 }
 
-// Makes residues of all numbers, each times the number that `by` is the scaled form of.
-pub fn settle(x: &mut [u32], by: u32, q: u32, k: u32)
-    requires { ⌜ Modulus q k × (by < q) ⌝ }
-    ensures { λ _. ⌜ now (x .exit) ≡ tabulate (length (now (x .entry))) (λ i. at (now (x .entry)) i * unscale q by % q) ⌝ }
-{
-    let mut i: usize = 0;
-    while i < x.len() {
-        x[i] = residues::reduce_once(montgomery::product(x[i], by, q, k), q);
-        i += 1;
-    }
-}
-
 // Row of a forward transform: the twist with the powers of its places, the transform, and residues, each times what `by` is the scaled form of.
 pub fn forward_row(x: &mut [u32], twist: &[u32], tables: &[u32], by: u32, q: u32, k: u32)
     requires { ⌜ ForwardReady q k by (now twist) (now tables) (now x) ⌝ }
@@ -52,7 +35,7 @@ pub fn forward_row(x: &mut [u32], twist: &[u32], tables: &[u32], by: u32, q: u32
     let mut twisted = [0u32; 256];
     multiply(&mut twisted, x, twist, q, k);
     transform_row(x, &twisted, tables, q, k);
-    settle(x, by, q, k);
+    ntt_settle::settle(x, by, q, k);
 }
 
 // Row of an inverse transform: the transform of numbers below 2 · q, and the twist, to numbers below 2 · q.

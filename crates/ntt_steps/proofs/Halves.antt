@@ -14,20 +14,20 @@ use Rattle.maths.specs.Transform.{transformAt}
 use Rattle.maths.specs.Butterfly.{Butterfly}
 use Rattle.maths.proofs.Fourfold.{sixteen-values}
 use Rattle.montgomery.specs.Scaled.{unscale}
+use Rattle.ntt_butterflies.specs.Lazy.{ButterflyReady, LazyButterfly}
 use Rattle.ntt_steps.specs.Steps.{StepReady, PartValue, Part, Parts, Quarters, SixteenReady, Roots, Sixteen}
 use Rattle.ntt_steps.proofs.Written.{FourWritten, last-or-before}
-use Rattle.ntt_steps.proofs.Turns.{TurnedBy, Turn, some-modulus, narrow-turn, wide-turn}
 
 -- what a turn of part p writes
 abbrev pub PartTurn : ℕ → ℕ → List ℕ → List ℕ → ℕ → ℕ → ℕ → ℕ → ℕ → ℕ → Type 0
 PartTurn q lift roots from p i z₀ z₁ z₂ z₃ =
-    Turn q lift (unscale q (at roots p)) (unscale q (at roots (4 + p))) (unscale q (at roots (2 * p)))
+    LazyButterfly q lift (unscale q (at roots p)) (unscale q (at roots (4 + p))) (unscale q (at roots (2 * p)))
     (at from (16 * p + i)) (at from (64 + (16 * p + i))) (at from (128 + (16 * p + i))) (at from (192 + (16 * p + i))) z₀ z₁ z₂ z₃
 
 -- what a turn of the second half writes
 abbrev pub QuarterTurn : ℕ → ℕ → List ℕ → List ℕ → ℕ → ℕ → ℕ → ℕ → ℕ → Type 0
 QuarterTurn q lift roots from i z₀ z₁ z₂ z₃ =
-    Turn q lift 1 (unscale q (at roots 4)) 1 (at from i) (at from (64 + i)) (at from (128 + i)) (at from (192 + i)) z₀ z₁ z₂ z₃
+    LazyButterfly q lift 1 (unscale q (at roots 4)) 1 (at from i) (at from (64 + i)) (at from (128 + i)) (at from (192 + i)) z₀ z₁ z₂ z₃
 
 -- a bound of the numbers in four blocks is one of all their places
 four-below : (limit start size : ℕ) (to : List ℕ) → ((j : ℕ) → j < size → at to (start + j) < limit)
@@ -46,33 +46,27 @@ four-below limit start size to zeroth first second third i h =
     ]
 
 module _ {q k lift : ℕ} {roots from to : List ℕ} (ready : StepReady q k lift roots from to) where
-  -- a turn of part p, where the numbers stand at the places k₀ to k₃
-  pub part-turn : (p i k₀ k₁ k₂ k₃ f h z₂ z₃ : ℕ) → p < 4 → i < 16 → k₀ ≡ 16 * p + i → k₁ ≡ 64 + (16 * p + i) → k₂ ≡ 128 + (16 * p + i)
-      → k₃ ≡ 192 + (16 * p + i) → TurnedBy q f (at from k₀) (at from k₂) (unscale q (at roots p))
-      → TurnedBy q h (at from k₁) (at from k₃) (unscale q (at roots (4 + p)))
-      → TurnedBy q z₂ (at from k₀ + at from k₂) (at from k₁ + at from k₃) (unscale q (at roots (2 * p))) → TurnedBy q z₃ f h (unscale q (at roots (2 * p)))
-      → PartTurn q lift roots from p i (at from k₀ + at from k₂ + (at from k₁ + at from k₃)) (f + h) z₂ z₃
-  part-turn p i k₀ k₁ k₂ k₃ f h z₂ z₃ p-below i-below zeroth first second third f-is h-is z₂-is z₃-is =
+  -- the numbers at the places j, 64 + j, 128 + j and 192 + j go into a butterfly
+  pub places-ready : (j : ℕ) → j < 64 → ButterflyReady q k lift (at from j) (at from (64 + j)) (at from (128 + j)) (at from (192 + j))
+  places-ready j h =
       let below = ready .from-below .each in
-      rw (← third, ← second, ← first, ← zeroth)
-      (narrow-turn lift _ _ _ (at from k₀) (at from k₁) (at from k₂) (at from k₃) (ready .one-lift) (below k₀ (omega arith)) (below k₁ (omega arith))
-      (below k₂ (omega arith)) (below k₃ (omega arith)) f h z₂ z₃ f-is h-is z₂-is z₃-is)
-
-  -- a turn of the second half
-  pub quarter-turn : (i h : ℕ) → i < 64 → TurnedBy q h (at from (64 + i)) (at from (192 + i)) (unscale q (at roots 4))
-      → QuarterTurn q lift roots from i (at from i + at from (128 + i) + (at from (64 + i) + at from (192 + i))) (at from i + (lift - at from (128 + i)) + h)
-      (at from i + at from (128 + i) + (2 * lift - (at from (64 + i) + at from (192 + i)))) (at from i + (lift - at from (128 + i)) + (2 * lift - h))
-  quarter-turn i h l h-is =
-      let below = ready .from-below .each in
-      wide-turn lift _ (at from i) (at from (64 + i)) (at from (128 + i)) (at from (192 + i)) (some-modulus (ready .modulus)) (ready .multiple)
-      (ready .one-lift) (below i (omega arith)) (below (64 + i) (omega arith)) (below (128 + i) (omega arith)) (below (192 + i) (omega arith)) h h-is
+      record {
+        modulus = ready .modulus;
+        multiple = ready .multiple;
+        two-q = ready .two-q;
+        room = ready .room;
+        a-below = below j (omega arith);
+        b-below = below (64 + j) (omega arith);
+        c-below = below (128 + j) (omega arith);
+        d-below = below (192 + j) (omega arith);
+      }
 
 -- a part after its last turn
 pub part-all : {q lift : ℕ} {roots from : List ℕ} {p : ℕ} {old to : List ℕ} {i : ℕ} → FourWritten (PartTurn q lift roots from p) (64 * p) 16 old i to → 16 ≤ i
     → Part q lift roots from p old to
 part-all {q} {lift} {roots} {from} {p} {old} {to} t h =
     record {
-      values = λ j l. t .each j (omega arith) .butterfly;
+      values = λ j l. t .each j (omega arith) .values;
       below = four-below (4 * lift) (64 * p) 16 to (λ j l. t .each j (omega arith) .zeroth-below) (λ j l. t .each j (omega arith) .first-below)
           (λ j l. t .each j (omega arith) .second-below) (λ j l. t .each j (omega arith) .third-below);
       others = t .others;
@@ -85,7 +79,7 @@ quarters-all {q} {lift} {roots} {from} {old} {to} t h =
     let turn : (i : ℕ) → i < 64 → QuarterTurn q lift roots from i (at to i) (at to (64 + i)) (at to (128 + i)) (at to (192 + i)) =
     λ i l. simp zero-add at (t .each i (omega arith)) in
     record {
-      values = λ i l. turn i l .butterfly;
+      values = λ i l. turn i l .values;
       below = record {
         each = λ i l. rw zero-add at (four-below (4 * lift) 0 64 to (λ j m. t .each j (omega arith) .zeroth-below) (λ j m. t .each j (omega arith) .first-below)
             (λ j m. t .each j (omega arith) .second-below) (λ j m. t .each j (omega arith) .third-below) i l);
@@ -122,7 +116,7 @@ parts-next ready t =
     record {
       modulus = ready .modulus;
       multiple = ready .multiple;
-      one-lift = ready .one-lift;
+      two-q = ready .two-q;
       room = ready .room;
       roots-size = ready .roots-size;
       roots-below = ready .roots-below;
@@ -206,7 +200,7 @@ narrow-ready {q} ready size =
     record {
       modulus = ready .modulus;
       multiple = mul-mod-left 2 q;
-      one-lift = omega arith;
+      two-q = omega arith;
       room = omega (arith, ready .modulus .modulus .small);
       roots-size = ready .roots-size;
       roots-below = ready .roots-below;
@@ -222,7 +216,7 @@ wide-ready {q} ready size narrow =
     record {
       modulus = ready .modulus;
       multiple = mul-mod-left 8 q;
-      one-lift = omega arith;
+      two-q = omega arith;
       room = omega (arith, ready .modulus .modulus .small);
       roots-size = ready .roots-size;
       roots-below = ready .roots-below;

@@ -11,6 +11,7 @@ use native.Mathlib.Omega.{arith}
 use lib.ListN.{length, set, length-set}
 use lib.Seq.{getD-set-same, getD-set-other}
 use Rattle.maths.specs.Vector.{at}
+use Rattle.ntt_steps.specs.Steps.{writtenApart}
 
 -- the last turn, or one before it
 pub last-or-before : {i j : ℕ} {A : Type 0} → j < i + 1 → (j ≡ i → A) → (j < i → A) → A
@@ -57,86 +58,95 @@ pub record FourWritten (P : ℕ → ℕ → ℕ → ℕ → ℕ → Type 0) (sta
 pub four-none : (P : ℕ → ℕ → ℕ → ℕ → ℕ → Type 0) (start size : ℕ) (old : List ℕ) → FourWritten P start size old 0 old
 four-none P start size old = record { within = omega arith; kept = refl; each = λ j h. absurd (omega arith); others = λ k h. refl }
 
--- four numbers are written
-module _ (to : List ℕ) (k₀ k₁ k₂ k₃ v₀ v₁ v₂ v₃ : ℕ) where
-  four : List ℕ
-  four = set (set (set (set to k₀ v₀) k₁ v₁) k₂ v₂) k₃ v₃
+-- four numbers are written, each `apart` places after the one before
+module _ (to : List ℕ) (place apart z₀ z₁ z₂ z₃ : ℕ) where
+  -- after one, two and three of them
+  abbrev one : List ℕ
+  one = set to place z₀
+
+  abbrev two : List ℕ
+  two = set one (place + apart) z₁
+
+  abbrev three : List ℕ
+  three = set two (place + 2 * apart) z₂
 
   -- the length
-  four-length : length four ≡ length to
-  unfolding four
-  four-length = simp length-set
+  apart-length : length (writtenApart to place apart z₀ z₁ z₂ z₃) ≡ length to
+  unfolding writtenApart
+  apart-length = simp length-set
 
   -- another place
-  four-other : (k : ℕ) → k ≢ k₀ → k ≢ k₁ → k ≢ k₂ → k ≢ k₃ → at four k ≡ at to k
-  unfolding four
-  four-other k a b c d =
-      getD-set-other (set (set (set to k₀ v₀) k₁ v₁) k₂ v₂) k₃ k v₃ 0 d ∙ getD-set-other (set (set to k₀ v₀) k₁ v₁) k₂ k v₂ 0 c
-      ∙ getD-set-other (set to k₀ v₀) k₁ k v₁ 0 b
-      ∙ getD-set-other to k₀ k v₀ 0 a
+  apart-other : (k : ℕ) → k ≢ place → k ≢ place + apart → k ≢ place + 2 * apart → k ≢ place + 3 * apart
+      → at (writtenApart to place apart z₀ z₁ z₂ z₃) k ≡ at to k
+  unfolding writtenApart
+  apart-other k a b c d =
+      getD-set-other three (place + 3 * apart) k z₃ 0 d ∙ getD-set-other two (place + 2 * apart) k z₂ 0 c ∙ getD-set-other one (place + apart) k z₁ 0 b
+      ∙ getD-set-other to place k z₀ 0 a
 
   -- the places written, which are different ones
-  module _ (a : k₀ < k₁) (b : k₁ < k₂) (c : k₂ < k₃) (inside : k₃ < length to) where
-    four-zeroth : at four k₀ ≡ v₀
-    unfolding four
-    four-zeroth =
-        getD-set-other (set (set (set to k₀ v₀) k₁ v₁) k₂ v₂) k₃ k₀ v₃ 0 (λ e. omega arith)
-        ∙ getD-set-other (set (set to k₀ v₀) k₁ v₁) k₂ k₀ v₂ 0 (λ e. omega arith)
-        ∙ getD-set-other (set to k₀ v₀) k₁ k₀ v₁ 0 (λ e. omega arith)
-        ∙ getD-set-same to k₀ v₀ 0 (omega arith)
+  module _ (some : 0 < apart) (inside : place + 3 * apart < length to) where
+    apart-zeroth : at (writtenApart to place apart z₀ z₁ z₂ z₃) place ≡ z₀
+    unfolding writtenApart
+    apart-zeroth =
+        getD-set-other three (place + 3 * apart) place z₃ 0 (λ e. omega arith) ∙ getD-set-other two (place + 2 * apart) place z₂ 0 (λ e. omega arith)
+        ∙ getD-set-other one (place + apart) place z₁ 0 (λ e. omega arith)
+        ∙ getD-set-same to place z₀ 0 (omega arith)
 
-    four-first : at four k₁ ≡ v₁
-    unfolding four
-    four-first =
-        getD-set-other (set (set (set to k₀ v₀) k₁ v₁) k₂ v₂) k₃ k₁ v₃ 0 (λ e. omega arith)
-        ∙ getD-set-other (set (set to k₀ v₀) k₁ v₁) k₂ k₁ v₂ 0 (λ e. omega arith)
-        ∙ getD-set-same (set to k₀ v₀) k₁ v₁ 0 (simp length-set (omega arith))
+    apart-first : at (writtenApart to place apart z₀ z₁ z₂ z₃) (place + apart) ≡ z₁
+    unfolding writtenApart
+    apart-first =
+        getD-set-other three (place + 3 * apart) (place + apart) z₃ 0 (λ e. omega arith)
+        ∙ getD-set-other two (place + 2 * apart) (place + apart) z₂ 0 (λ e. omega arith)
+        ∙ getD-set-same one (place + apart) z₁ 0 (simp length-set (omega arith))
 
-    four-second : at four k₂ ≡ v₂
-    unfolding four
-    four-second =
-        getD-set-other (set (set (set to k₀ v₀) k₁ v₁) k₂ v₂) k₃ k₂ v₃ 0 (λ e. omega arith)
-        ∙ getD-set-same (set (set to k₀ v₀) k₁ v₁) k₂ v₂ 0 (simp length-set (omega arith))
+    apart-second : at (writtenApart to place apart z₀ z₁ z₂ z₃) (place + 2 * apart) ≡ z₂
+    unfolding writtenApart
+    apart-second =
+        getD-set-other three (place + 3 * apart) (place + 2 * apart) z₃ 0 (λ e. omega arith)
+        ∙ getD-set-same two (place + 2 * apart) z₂ 0 (simp length-set (omega arith))
 
-    four-third : at four k₃ ≡ v₃
-    unfolding four
-    four-third = getD-set-same (set (set (set to k₀ v₀) k₁ v₁) k₂ v₂) k₃ v₃ 0 (simp length-set (omega arith))
+    apart-third : at (writtenApart to place apart z₀ z₁ z₂ z₃) (place + 3 * apart) ≡ z₃
+    unfolding writtenApart
+    apart-third = getD-set-same three (place + 3 * apart) z₃ 0 (simp length-set (omega arith))
 
 -- one more turn
 module _ {P : ℕ → ℕ → ℕ → ℕ → ℕ → Type 0} {start size : ℕ} {old : List ℕ} {i : ℕ} {to : List ℕ} (t : FourWritten P start size old i to)
-    (k₀ k₁ k₂ k₃ v₀ v₁ v₂ v₃ : ℕ) (zeroth : k₀ ≡ start + i) (first : k₁ ≡ start + (size + i)) (second : k₂ ≡ start + (2 * size + i))
-    (third : k₃ ≡ start + (3 * size + i)) (more : i < size) (room : start + 4 * size ≤ length old) (holds : P i v₀ v₁ v₂ v₃) where
-  -- the last place lies inside
-  third-inside : k₃ < length to
-  third-inside = omega (arith, t .kept)
+    (z₀ z₁ z₂ z₃ : ℕ) (more : i < size) (room : start + 4 * size ≤ length old) (holds : P i z₀ z₁ z₂ z₃) where
+  -- the places of this turn
+  first-place : start + i + size ≡ start + (size + i)
+  first-place = omega arith
+
+  second-place : start + i + 2 * size ≡ start + (2 * size + i)
+  second-place = omega arith
+
+  third-place : start + i + 3 * size ≡ start + (3 * size + i)
+  third-place = omega arith
 
   -- the four numbers of this turn
-  this-turn : (j : ℕ) → j ≡ i → let new = four to k₀ k₁ k₂ k₃ v₀ v₁ v₂ v₃ in
+  this-turn : (j : ℕ) → j ≡ i → let new = writtenApart to (start + i) size z₀ z₁ z₂ z₃ in
       P j (at new (start + j)) (at new (start + (size + j))) (at new (start + (2 * size + j))) (at new (start + (3 * size + j)))
   this-turn j e =
-      let a : k₀ < k₁ = omega arith in
-      let b : k₁ < k₂ = omega arith in
-      let c : k₂ < k₃ = omega arith in
+      let some : 0 < size = omega arith in
+      let inside : start + i + 3 * size < length to = omega (arith, t .kept) in
       rw (
         e,
-        ← zeroth,
-        ← first,
-        ← second,
-        ← third,
-        four-zeroth to k₀ k₁ k₂ k₃ v₀ v₁ v₂ v₃ a b c third-inside,
-        four-first to k₀ k₁ k₂ k₃ v₀ v₁ v₂ v₃ a b c third-inside,
-        four-second to k₀ k₁ k₂ k₃ v₀ v₁ v₂ v₃ a b c third-inside,
-        four-third to k₀ k₁ k₂ k₃ v₀ v₁ v₂ v₃ a b c third-inside,
+        ← first-place,
+        ← second-place,
+        ← third-place,
+        apart-zeroth to (start + i) size z₀ z₁ z₂ z₃ some inside,
+        apart-first to (start + i) size z₀ z₁ z₂ z₃ some inside,
+        apart-second to (start + i) size z₀ z₁ z₂ z₃ some inside,
+        apart-third to (start + i) size z₀ z₁ z₂ z₃ some inside,
       ) holds
 
   -- a place of another turn
   other-turn : (k : ℕ) → k ≢ start + i → k ≢ start + (size + i) → k ≢ start + (2 * size + i) → k ≢ start + (3 * size + i)
-      → at (four to k₀ k₁ k₂ k₃ v₀ v₁ v₂ v₃) k ≡ at to k
+      → at (writtenApart to (start + i) size z₀ z₁ z₂ z₃) k ≡ at to k
   other-turn k a b c d =
-      four-other to k₀ k₁ k₂ k₃ v₀ v₁ v₂ v₃ k (λ e. a (e ∙ zeroth)) (λ e. b (e ∙ first)) (λ e. c (e ∙ second)) (λ e. d (e ∙ third))
+      apart-other to (start + i) size z₀ z₁ z₂ z₃ k a (λ e. b (e ∙ first-place)) (λ e. c (e ∙ second-place)) (λ e. d (e ∙ third-place))
 
   -- the four numbers of an earlier turn
-  earlier-turn : (j : ℕ) → j < i → let new = four to k₀ k₁ k₂ k₃ v₀ v₁ v₂ v₃ in
+  earlier-turn : (j : ℕ) → j < i → let new = writtenApart to (start + i) size z₀ z₁ z₂ z₃ in
       P j (at new (start + j)) (at new (start + (size + j))) (at new (start + (2 * size + j))) (at new (start + (3 * size + j)))
   earlier-turn j l =
       rw (
@@ -146,12 +156,11 @@ module _ {P : ℕ → ℕ → ℕ → ℕ → ℕ → Type 0} {start size : ℕ}
         other-turn (start + (3 * size + j)) (λ e. omega arith) (λ e. omega arith) (λ e. omega arith) (λ e. omega arith),
       ) (t .each j l)
 
-  pub four-more : FourWritten P start size old (i + 1) (set (set (set (set to k₀ v₀) k₁ v₁) k₂ v₂) k₃ v₃)
-  unfolding four
+  pub four-more : FourWritten P start size old (i + 1) (writtenApart to (start + i) size z₀ z₁ z₂ z₃)
   four-more =
       record {
         within = omega arith;
-        kept = four-length to k₀ k₁ k₂ k₃ v₀ v₁ v₂ v₃ ∙ t .kept;
+        kept = apart-length to (start + i) size z₀ z₁ z₂ z₃ ∙ t .kept;
         each = λ j h. last-or-before h (this-turn j) (earlier-turn j);
         others = λ k h.
             other-turn k (outside h i (omega arith)) (outside h (size + i) (omega arith)) (outside h (2 * size + i) (omega arith))

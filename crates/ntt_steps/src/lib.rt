@@ -1,20 +1,21 @@
 // The steps of the transform of a row of 256 numbers: 16 transforms of 16 numbers, and the exchange of rows and columns between two such steps (003
 // section 3.2.2, applied to a row). Loops with products go over consecutive places, so that the compiler works on several at a time. Numbers are kept below
 // small multiples of q.
+use ntt_butterflies::Values;
 ghost use mathlib.Core.Path.{_≡_};
-ghost use Prim.Native.Nat.{_*_, _%_, _^_, _<_};
+ghost use Prim.Native.Nat.{_+_, _*_, _<_};
 ghost use lib.ListN.{length};
-ghost use Rattle.maths.specs.Congruence.{Mod};
-ghost use Rattle.maths.specs.Butterfly.{difference};
-ghost use Rattle.montgomery.specs.Scaled.{unscale, Modulus};
-ghost use Rattle.ntt_steps.specs.Steps.{StepReady, Part, Parts, Quarters, SixteenReady, Sixteen, ExchangedRow, Exchanged};
+ghost use Rattle.ntt_steps.specs.Steps.{writtenApart, StepReady, Part, Parts, Quarters, SixteenReady, Sixteen, ExchangedRow, Exchanged};
 
-// The difference of two numbers below `lift`, a multiple of q, times the number that `w` is the scaled form of.
-fn turned_difference(a: u32, b: u32, lift: u32, w: u32, q: u32, k: u32) -> u32
-    requires { ⌜ Modulus q k × (w < q) × (lift % q ≡ 0) × (2 * lift < 2 ^ 32) × (a < lift) × (b < lift) ⌝ }
-    ensures { λ r. ⌜ Mod q r (difference q a b * unscale q w) × (r < 2 * q) ⌝ }
+// Writes what a butterfly gives: the first value at `place`, each of the others `apart` places after the one before.
+fn write_apart(to: &mut [u32], place: usize, apart: usize, z: Values)
+    requires { ⌜ place + 3 * apart < length (now to) ⌝ }
+    ensures { λ _. ⌜ now (to .exit) ≡ writtenApart (now (to .entry)) place apart (z .zeroth) (z .first) (z .second) (z .third) ⌝ }
 {
-    montgomery::product(a + (lift - b), w, q, k)
+    to[place] = z.zeroth;
+    to[place + apart] = z.first;
+    to[place + 2 * apart] = z.second;
+    to[place + 3 * apart] = z.third;
 }
 
 // Butterflies of the numbers 16 · part + i, 64, 128 and 192 places on, into the block of 64 that has the number `part`.
@@ -29,18 +30,20 @@ fn narrow_part(to: &mut [u32], from: &[u32], roots: &[u32], part: usize, lift: u
     let v = roots[2 * part];
     let mut i: usize = 0;
     while i < 16 {
-        let a = from[start + i];
-        let b = from[start + 64 + i];
-        let c = from[start + 128 + i];
-        let d = from[start + 192 + i];
-        let e = a + c;
-        let f = turned_difference(a, c, lift, t, q, k);
-        let g = b + d;
-        let h = turned_difference(b, d, lift, u, q, k);
-        to[out + i] = e + g;
-        to[out + 16 + i] = f + h;
-        to[out + 32 + i] = turned_difference(e, g, 2 * lift, v, q, k);
-        to[out + 48 + i] = turned_difference(f, h, 2 * lift, v, q, k);
+        let j = start + i;
+        let z = ntt_butterflies::twiddled_butterfly(
+            from[j],
+            from[64 + j],
+            from[128 + j],
+            from[192 + j],
+            t,
+            u,
+            v,
+            lift,
+            q,
+            k,
+        );
+        write_apart(to, out + i, 16, z);
         i += 1;
     }
 }
@@ -65,18 +68,17 @@ fn wide(to: &mut [u32], from: &[u32], roots: &[u32], lift: u32, q: u32, k: u32)
     let u = roots[4];
     let mut i: usize = 0;
     while i < 64 {
-        let a = from[i];
-        let b = from[64 + i];
-        let c = from[128 + i];
-        let d = from[192 + i];
-        let e = a + c;
-        let f = a + (lift - c);
-        let g = b + d;
-        let h = turned_difference(b, d, lift, u, q, k);
-        to[i] = e + g;
-        to[64 + i] = f + h;
-        to[128 + i] = e + (2 * lift - g);
-        to[192 + i] = f + (2 * lift - h);
+        let z = ntt_butterflies::plain_butterfly(
+            from[i],
+            from[64 + i],
+            from[128 + i],
+            from[192 + i],
+            u,
+            lift,
+            q,
+            k,
+        );
+        write_apart(to, i, 64, z);
         i += 1;
     }
 }

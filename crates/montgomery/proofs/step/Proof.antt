@@ -6,6 +6,7 @@ use native.Mathlib.Nat.{mod-lt, mod-eq-of-lt}
 use native.Mathlib.Omega.{arith}
 use borrow.Author.Needs.{needs}
 use Rattle.montgomery.proofs.Reduction.{product-below, multiplier, sum-below, quotient-below, quotient-is}
+use Rattle.montgomery.proofs.Lazy.{quotient-lazy}
 use Rattle.montgomery.proofs.step.Statement.{statement}
 use Rattle.montgomery.proofs.step.Tie as tie
 
@@ -36,6 +37,7 @@ returns c =
     rw (whole c) (
       quotient-is (c .args .x) (c .pre .0),
       quotient-below 4294967296 (c .args .q) (c .args .k) (c .pre .0 .inverse) (c .args .x) (omega arith) (c .pre .1),
+      quotient-lazy (c .args .x) (c .pre .0),
     )
 
 pub step-spec : {M : Type 1} → statement M

@@ -17,10 +17,9 @@ column-total-requires c κs =
 returns : tie.Need-returns
 unfolding firstRowAt
 returns c =
-    let product = c .before in
-    let args = product .before .before .before .args in
-    c .reduce-once .ensures ∙ product .product .ensures .0
-    ∙ ap (λ (y : ℕ). y * unscale (args .q) (args .by) % args .q) (product .before .column-total .ensures)
+    let total = c .before in
+    let args = total .before .before .args in
+    c .settle-number .ensures ∙ ap (λ (y : ℕ). y * unscale (args .q) (args .by) % args .q) (total .column-total .ensures)
 
 pub first-row-place-spec : {M : Type 1} → statement M
-first-row-place-spec = tie.close (tie.spec column-total-requires (λ c κs. search needs) (λ c κs. search needs) returns)
+first-row-place-spec = tie.close (tie.spec column-total-requires (λ c κs. search needs) returns)

@@ -30,7 +30,11 @@ checked-requires : tie.Need-checked-requires
 checked-requires c κs =
     let checked = c .before .before in
     let args = start-of checked .args in (
-      omega (arith, lengths-are (args .set) (length (args .a .now)) (length (args .b .now)) (length (args .out .now)) (length (args .work .now)) (passed checked) .0),
+      omega (
+        arith,
+        lengths-are (args .set) (length (args .a .now)) (length (args .b .now)) (length (args .out .now)) (length (args .work .now))
+            (passed checked) .0,
+      ),
       lengths-passed (args .set) (length (args .a .now)) (length (args .b .now)) (length (args .out .now)) (length (args .work .now)) (passed checked),
     )
 

@@ -1,4 +1,4 @@
--- `ntt_partial::checked` meets its contract, by its tests in order.
+-- `ntt_partial_checks::checked` meets its contract, by its tests in order.
 -- Assumes nothing.
 use mathlib.Core.Path.{_≡_, sym, ap, _∙_}
 use Prim.Native.Nat.{_*_, _≤_}

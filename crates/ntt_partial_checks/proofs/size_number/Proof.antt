@@ -1,4 +1,4 @@
--- `ntt_partial::size_number` meets its contract, by its tests in order.
+-- `ntt_partial_checks::size_number` meets its contract, by its tests in order.
 -- Assumes nothing.
 use mathlib.Core.Path.{sym}
 use Prim.Native.Nat.{_*_, _≤_}

@@ -1,25 +1,24 @@
 -- `ntt_plain::fill_rows` meets its contract: after i turns the first i values are written.
 -- Assumes nothing.
-use mathlib.Core.Path.{refl, sym, ap, _∙_}
-use Prim.Native.Nat.{ℕ, _%_, _-_, _<_}
-use native.Mathlib.Nat.{zero-add}
+use mathlib.Core.Path.{sym, _∙_}
+use Prim.Native.Nat.{_-_, _<_}
 use native.Mathlib.Omega.{arith}
 use lib.ListN.{length}
-use Rattle.calls.proofs.Filled.{Filled, filled-none, filled-more, filled-whole}
 use Rattle.ntt_plain.specs.Plain.{rows}
-use Rattle.ntt_plain.proofs.Steps.{row-start, rows-length, rows-at, row-summable}
+use Rattle.ntt_plain.proofs.Steps.{row-start, rows-length, row-summable}
+use Rattle.ntt_plain.proofs.Lazily.{Written, written-none, written-all, rows-more}
 use borrow.Author.Needs.{needs}
 use Rattle.ntt_plain.proofs.fill_rows.Statement.{statement}
 use Rattle.ntt_plain.proofs.fill_rows.Tie as tie
 
 abbrev Inv-loop : tie.InvT-loop
-Inv-loop to₀ x powers count row q i₀ to i = Filled to₀ 0 (length to₀) (rows q row count powers x) i to
+Inv-loop to₀ x powers count row q k s i₀ to i = Written q (rows q row count powers x) to₀ i to
 
 abbrev μ-loop : tie.MeasureT-loop
-μ-loop to₀ x powers count row q i₀ to i = length to₀ - i
+μ-loop to₀ x powers count row q k s i₀ to i = length to₀ - i
 
 loop-holds : tie.Need-loop-holds Inv-loop μ-loop
-loop-holds c = let pre = c .before .before .before .pre in filled-none (rows-length _ _ _ _ _ ∙ sym (pre .3)) (omega arith)
+loop-holds c = let pre = c .before .before .before .pre in written-none (pre .3 ∙ sym (rows-length _ _ _ _ _))
 
 rem-strided-sum : tie.Need-rem-strided-sum Inv-loop μ-loop
 rem-strided-sum c = let pre = c .before .before .before .before .before .pre in omega (arith, pre .0 .some-columns)
@@ -42,21 +41,19 @@ strided-sum-requires c κs =
     let pre = c .before .before .before .before .before .pre in
     row-summable (pre .0) _ (c .before .loop .i) (pre .1) (pre .2) (omega (arith, c .before .loop .inv .kept-length, c .loop-test .taken, pre .3))
 
-reduce-requires : tie.Need-reduce-requires Inv-loop μ-loop
-reduce-requires c κs = let pre = c .before .before .before .before .before .before .pre in omega (arith, pre .0 .some-modulus)
+long-step-requires : tie.Need-long-step-requires Inv-loop μ-loop
+long-step-requires c κs = let pre = c .before .before .before .before .before .before .pre in (pre .4, pre .5)
 
 loop-again : tie.Need-loop-again Inv-loop μ-loop
 loop-again c =
     let start = c .before .before .before .before .before .before .before in
     let turn = c .before .before .before .loop in
-    let below : turn .i < length (start .args .to .now) = omega (arith, turn .inv .kept-length, c .before .before .loop-test .taken) in
-    filled-more 0 (turn .inv) below (sym (zero-add (turn .i)))
-    (c .reduce .ensures ∙ ap (λ (y : ℕ). y % start .args .q) (c .before .strided-sum .ensures)
-    ∙ sym (rows-at (start .args .q) (start .args .row) (start .args .count) (start .args .powers .now) (start .args .x .now)
-    (turn .i) (omega (arith, start .pre .3))))
+    let below : turn .i < length (start .args .x .now) = omega (arith, turn .inv .kept-length, c .before .before .loop-test .taken, start .pre .3) in
+    rows-more (start .args .row) (start .args .count) (c .before .strided-sum .result) (start .args .powers .now) (start .args .x .now) (turn .inv) below
+    (c .before .strided-sum .ensures) (c .long-step .ensures .0) (c .long-step .ensures .1)
 
 returns : tie.Need-returns Inv-loop μ-loop
-returns c = filled-whole (c .before .loop .inv) refl (omega (arith, c .loop-test .left, c .before .loop .inv .kept-length))
+returns c = written-all (c .before .loop .inv) (omega (arith, c .loop-test .left, c .before .loop .inv .kept-length, c .before .loop .inv .size))
 
 pub fill-rows-spec : {M : Type 1} → statement M
 fill-rows-spec =
@@ -70,7 +67,7 @@ fill-rows-spec =
     rem-strided-sum
     mul-strided-sum-2
     strided-sum-requires
-    reduce-requires
+    long-step-requires
     (λ c. search needs)
     (λ c. search needs)
     (λ c. search needs)

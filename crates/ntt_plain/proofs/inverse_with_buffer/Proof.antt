@@ -1,89 +1,82 @@
--- `ntt_plain::inverse_with_buffer` meets its contract: rows, twist, columns, and the scale.
+-- `ntt_plain::inverse_with_buffer` meets its contract: rows, twist, columns, and the settling.
 -- Assumes nothing.
-use mathlib.Core.Path.{_≡_, sym, ap, _∙_}
-use Prim.Native.Nat.{ℕ}
+use mathlib.Core.Path.{_≡_, sym, _∙_}
 use native.Mathlib.Nat.{le-of-eq, le-trans}
 use lib.ListN.{length}
-use Rattle.ntt_plain.specs.Plain.{columns, twisted, rows, scaled}
-use Rattle.ntt_plain.proofs.Steps.{rows-twisted-length, columns-plain, twisted-plain, rows-plain, RootPowers, columns-recovered}
+use Rattle.ntt_plain.proofs.Steps.{rows-length, twisted-length, plain-of, RootPowers}
+use Rattle.ntt_plain.proofs.Lazily.{recovered-settled}
 use borrow.Author.Needs.{needs}
 use Rattle.ntt_plain.proofs.inverse_with_buffer.Statement.{statement}
 use Rattle.ntt_plain.proofs.inverse_with_buffer.Tie as tie
 
--- the function's start, as seen after the rows; the rows, as seen after the twist; the twist, as seen after the columns
-abbrev start-of : tie.After-fill-rows → tie.Start
-start-of c = c .before .before .before .before .before .before
+-- the factor, as seen after the rows; the function's start, as seen after the factor
+abbrev factor-of : tie.After-fill-rows → tie.After-settling-factor
+factor-of c = c .before .before
 
+abbrev start-of : tie.After-settling-factor → tie.Start
+start-of c = c .before .before .before .before .before .before .before
+
+-- the rows, as seen after the twist; the twist, as seen after the columns; the columns, as seen after the settling
 abbrev rows-of : tie.After-twist → tie.After-fill-rows
 rows-of c = c .before .before .before .before
 
 abbrev twist-of : tie.After-fill-columns → tie.After-twist
 twist-of c = c .before .before .before .before .before
 
--- after the twist
-twist-made : (c : tie.After-twist)
-    → let start = start-of (rows-of c) in
-    c .twist .last .0 ≡ twisted (start .args .q) (start .args .row) (start .args .powers .now)
-    (rows (start .args .q) (start .args .row) (start .args .count) (start .args .powers .now) (start .args .x .now))
-twist-made c =
-    let start = start-of (rows-of c) in
-    c .twist .ensures ∙ ap (twisted (start .args .q) (start .args .row) (start .args .powers .now)) (rows-of c .fill-rows .ensures)
+abbrev columns-of : tie.After-settle → tie.After-fill-columns
+columns-of c = c .before .before .before .before
 
--- after the columns
-columns-made : (c : tie.After-fill-columns)
-    → let start = start-of (rows-of (twist-of c)) in
-    c .fill-columns .last .0 ≡ columns (start .args .q) (start .args .row) (start .args .count) (length (start .args .out .now)) (start .args .powers .now)
-    (twisted (start .args .q) (start .args .row) (start .args .powers .now)
-    (rows (start .args .q) (start .args .row) (start .args .count) (start .args .powers .now) (start .args .x .now)))
-columns-made c =
-    let start = start-of (rows-of (twist-of c)) in
-    c .fill-columns .ensures
-    ∙ ap (columns (start .args .q) (start .args .row) (start .args .count) (length (start .args .out .now)) (start .args .powers .now))
-    (twist-made (twist-of c))
+-- all places are filled
+rows-size : (c : tie.After-fill-rows) → length (c .fill-rows .last .0) ≡ length (start-of (factor-of c) .args .x .now)
+rows-size c = c .fill-rows .ensures .kept ∙ rows-length _ _ _ _ _
+
+twist-size : (c : tie.After-twist) → length (c .twist .last .0) ≡ length (start-of (factor-of (rows-of c)) .args .x .now)
+twist-size c = c .twist .ensures .kept ∙ twisted-length _ _ _ _ ∙ rows-size (rows-of c)
 
 twist-requires : tie.Need-twist-requires
 twist-requires c κs =
     let made = c .before .before .before in
-    let start = start-of made in
-    rw (made .fill-rows .ensures) (rows-plain (start .pre .0) (start .args .count))
+    let factor = factor-of made in
+    let pre = start-of factor .pre in
+    (plain-of (pre .0) (le-of-eq (rows-size made ∙ sym (pre .2))) (made .fill-rows .ensures .below), factor .before .before .negated-inverse .ensures)
 
 fill-columns-requires : tie.Need-fill-columns-requires
 fill-columns-requires c κs =
     let made = c .before .before .before .before in
-    let start = start-of (rows-of made) in
-    let long = rows-twisted-length (start .args .q) (start .args .row) (start .args .count) (start .args .powers .now) (start .args .x .now) in
-    rw (twist-made made)
-    (twisted-plain (rows-plain (start .pre .0) (start .args .count)), long ∙ start .pre .1, le-trans (start .pre .4) (le-of-eq (sym (start .pre .2))))
-
-scale-requires : tie.Need-scale-requires
-scale-requires c κs =
-    let made = c .before .before .before in
-    let start = start-of (rows-of (twist-of made)) in
-    let plain = columns-plain (twisted-plain (rows-plain (start .pre .0) (start .args .count))) (start .args .count) (length (start .args .out .now))
-    (le-trans (start .pre .4) (le-of-eq (sym (start .pre .2)))) in
-    rw (columns-made made) (plain .numbers, start .pre .3, start .pre .0 .modulus)
+    let factor = factor-of (rows-of made) in
+    let pre = start-of factor .pre in
+    let size = twist-size made in (
+      plain-of (pre .0) (le-of-eq (size ∙ sym (pre .2))) (made .twist .ensures .below),
+      size ∙ pre .1,
+      le-trans (pre .4) (le-of-eq (sym (pre .2))),
+      factor .before .before .negated-inverse .ensures,
+      factor .before .scaled-scale .ensures,
+    )
 
 returns : tie.Need-returns
 returns c w m table whole size fits =
-    let made = c .before .before .before .before .before .before in
-    let start = start-of (rows-of (twist-of made)) in
+    let settle = c .before .before in
+    let made = columns-of settle in
+    let rows = rows-of (twist-of made) in
+    let factor = factor-of rows in
+    let start = start-of factor in
     let root : RootPowers (start .args .q) (start .args .row) (start .args .count) w (start .args .powers .now) =
     record { some-columns = start .pre .0 .some-columns; size = start .pre .2 ∙ start .pre .1; table = table; whole = whole } in
-    c .before .before .scale .ensures
-    ∙ ap (scaled (start .args .q) (start .args .e)) (columns-made made
-    ∙ ap (λ (n : ℕ). columns (start .args .q) (start .args .row) (start .args .count) n (start .args .powers .now)
-    (twisted (start .args .q) (start .args .row) (start .args .powers .now)
-    (rows (start .args .q) (start .args .row) (start .args .count) (start .args .powers .now) (start .args .x .now)))) size)
-    ∙ columns-recovered root m (start .args .e) (start .args .x .now) fits (start .pre .1)
+    recovered-settled (start .pre .0 .modulus) root m (length (start .args .out .now)) (start .args .x .now) fits (start .args .e) (start .pre .1)
+    size (factor .settling-factor .ensures .1) (rows .fill-rows .ensures) (twist-of made .twist .ensures) (made .fill-columns .ensures)
+    (settle .settle .ensures)
 
 pub inverse-with-buffer-spec : {M : Type 1} → statement M
 inverse-with-buffer-spec =
     tie.close
     (tie.spec
     (λ c κs. search needs)
+    (λ c κs. search needs)
+    (λ c κs. search needs)
+    (λ c κs. search needs)
     twist-requires
     fill-columns-requires
-    scale-requires
+    (λ c κs. search needs)
     (λ c. search needs)
     (λ c. search needs)
     returns)

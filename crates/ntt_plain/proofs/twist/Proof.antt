@@ -1,50 +1,44 @@
 -- `ntt_plain::twist` meets its contract: after i turns the first i numbers are multiplied, and the others are as they were.
 -- Assumes nothing.
-use mathlib.Core.Path.{refl, sym, ap, _∙_}
-use Prim.Native.Nat.{ℕ, _*_, _/_, _%_, _-_, _<_}
-use native.Mathlib.Nat.{zero-add}
+use mathlib.Core.Path.{sym}
+use Prim.Native.Nat.{_-_, _<_}
 use native.Mathlib.Omega.{arith}
 use lib.ListN.{length}
-use Rattle.maths.specs.Vector.{at}
-use Rattle.calls.proofs.Filled.{Filled, filled-none, filled-more, filled-whole, ahead}
 use Rattle.ntt_plain.specs.Plain.{twisted}
-use Rattle.ntt_plain.proofs.Steps.{twisted-length, twisted-at}
+use Rattle.ntt_plain.proofs.Steps.{twisted-length}
+use Rattle.ntt_plain.proofs.Lazily.{Written, written-none, written-all, twisted-more}
 use borrow.Author.Needs.{needs}
 use Rattle.ntt_plain.proofs.twist.Statement.{statement}
 use Rattle.ntt_plain.proofs.twist.Tie as tie
 
 abbrev Inv-loop : tie.InvT-loop
-Inv-loop x₀ powers row q i₀ x i = Filled x₀ 0 (length x₀) (twisted q row powers x₀) i x
+Inv-loop x₀ powers row q k i₀ x i = Written q (twisted q row powers x₀) x₀ i x
 
 abbrev μ-loop : tie.MeasureT-loop
-μ-loop x₀ powers row q i₀ x i = length x₀ - i
+μ-loop x₀ powers row q k i₀ x i = length x₀ - i
 
 loop-holds : tie.Need-loop-holds Inv-loop μ-loop
-loop-holds c = filled-none (twisted-length _ _ _ _) (omega arith)
+loop-holds c = written-none (sym (twisted-length _ _ _ _))
 
-multiply-requires : tie.Need-multiply-requires Inv-loop μ-loop
-multiply-requires c κs =
+product-requires : tie.Need-product-requires Inv-loop μ-loop
+product-requires c κs =
     let start = c .before .before .before .before .before .before .before in
     let turn = c .before .before .before .before .loop in
     let below : turn .i < length (start .args .x .now) = omega (arith, turn .inv .kept-length, c .before .before .before .loop-test .taken) in
     let exponent = c .before .before .twist-exponent in
-    let power = start .pre .factors .each (exponent .result) (omega (arith, exponent .ensures .1, start .pre .size)) in
-    (rw (ahead (turn .inv)) (start .pre .numbers .each (turn .i) below), power, start .pre .modulus)
+    (start .pre .1, start .pre .0 .factors .each (exponent .result) (omega (arith, exponent .ensures .1, start .pre .0 .size)))
 
 loop-again : tie.Need-loop-again Inv-loop μ-loop
 loop-again c =
     let start = c .before .before .before .before .before .before .before .before in
     let turn = c .before .before .before .before .before .loop in
     let below : turn .i < length (start .args .x .now) = omega (arith, turn .inv .kept-length, c .before .before .before .before .loop-test .taken) in
-    let number = at (turn .x) (turn .i) in
-    filled-more 0 (turn .inv) below (sym (zero-add (turn .i)))
-    (c .multiply .ensures
-    ∙ ap (λ (y : ℕ). number * at (start .args .powers .now) y % start .args .q) (c .before .before .before .twist-exponent .ensures .0)
-    ∙ ap (λ (y : ℕ). y * at (start .args .powers .now) (turn .i / start .args .row * (turn .i % start .args .row)) % start .args .q) (ahead (turn .inv))
-    ∙ sym (twisted-at (start .args .q) (start .args .row) (start .args .powers .now) (start .args .x .now) (turn .i) below))
+    let exponent = c .before .before .before .twist-exponent in
+    twisted-more (start .args .row) (exponent .result) (start .args .powers .now) (turn .inv) below (exponent .ensures .0)
+    (c .product .ensures .0) (c .product .ensures .1)
 
 returns : tie.Need-returns Inv-loop μ-loop
-returns c = filled-whole (c .before .loop .inv) refl (omega (arith, c .loop-test .left, c .before .loop .inv .kept-length))
+returns c = written-all (c .before .loop .inv) (omega (arith, c .loop-test .left, c .before .loop .inv .kept-length, c .before .loop .inv .size))
 
 pub twist-spec : {M : Type 1} → statement M
 twist-spec =
@@ -58,7 +52,7 @@ twist-spec =
     (λ c. search needs)
     (λ c. search needs)
     (λ c. search needs)
-    multiply-requires
+    product-requires
     (λ c. search needs)
     (λ c. search needs)
     (λ c. search needs)

@@ -1,7 +1,6 @@
 -- `ntt_steps::sixteen` meets its contract: the two halves one after the other.
 -- Assumes nothing.
 use native.Mathlib.Omega.{arith}
-use Rattle.ntt_steps.proofs.Turns.{some-modulus}
 use Rattle.ntt_steps.proofs.Halves.{narrow-ready, wide-ready, halves}
 use borrow.Author.Needs.{needs}
 use Rattle.ntt_steps.proofs.sixteen.Statement.{statement}
@@ -21,7 +20,7 @@ returns : tie.Need-returns
 returns c =
     let at-narrow = c .before .before .before .before .before .before in
     let start = at-narrow .before .before .before .before .before in
-    halves (some-modulus (start .pre .modulus)) (at-narrow .narrow .ensures) (c .before .before .wide .ensures)
+    halves (omega (arith, start .pre .modulus .modulus .some)) (at-narrow .narrow .ensures) (c .before .before .wide .ensures)
 
 pub sixteen-spec : {M : Type 1} → statement M
 sixteen-spec =

@@ -1,11 +1,11 @@
 -- `ntt_steps::wide` meets its contract: after i turns the first i butterflies are written.
 -- Assumes nothing.
-use Prim.Native.Nat.{_+_, _-_, _<_}
-use lib.ListN.{length-set}
-use Rattle.maths.specs.Vector.{at}
+use Prim.Native.Nat.{_+_, _-_, _*_, _≤_}
+use lib.ListN.{length}
+use native.Mathlib.Nat.{zero-add}
 use native.Mathlib.Omega.{arith}
 use Rattle.ntt_steps.proofs.Written.{FourWritten, four-none, four-more}
-use Rattle.ntt_steps.proofs.Halves.{QuarterTurn, quarter-turn, quarters-all}
+use Rattle.ntt_steps.proofs.Halves.{QuarterTurn, quarters-all, places-ready}
 use borrow.Author.Needs.{needs}
 use Rattle.ntt_steps.proofs.wide.Statement.{statement}
 use Rattle.ntt_steps.proofs.wide.Tie as tie
@@ -17,87 +17,32 @@ abbrev μ-loop : tie.MeasureT-loop
 μ-loop to₀ from roots lift q k u i₀ to i = 64 - i
 
 -- where the function begins, seen from a turn
-abbrev start : (c : tie.In-loop Inv-loop μ-loop) → tie.Start Inv-loop μ-loop
+abbrev start : tie.In-loop Inv-loop μ-loop → tie.Start Inv-loop μ-loop
 start c = c .before .before .before .before .before .before
 
--- the four numbers of a turn are below lift
-numbers : (c : tie.In-loop Inv-loop μ-loop) → let args = start c .args in
-    let i = c .before .loop .i in
-    (at (args .from .now) i < args .lift) × (at (args .from .now) (64 + i) < args .lift) × (at (args .from .now) (128 + i) < args .lift)
-    × (at (args .from .now) (192 + i) < args .lift)
-numbers c =
-    let below = start c .pre .from-below .each in
-    (below _ (omega arith), below _ (omega arith), below _ (omega arith), below _ (omega arith))
+-- the turn, seen from after its butterfly
+abbrev turn : tie.After-plain-butterfly Inv-loop μ-loop → tie.In-loop Inv-loop μ-loop
+turn c = c .before .before .before .before .before
 
 loop-holds : tie.Need-loop-holds Inv-loop μ-loop
 loop-holds c = four-none _ _ _ _
 
-add-e : tie.Need-add-e Inv-loop μ-loop
-add-e c =
-    let here = c .before .before .before .before in omega (arith, numbers here, start here .pre)
-
-sub-f : tie.Need-sub-f Inv-loop μ-loop
-sub-f c =
-    let here = c .before .before .before .before in omega (arith, numbers here, start here .pre)
-
-add-f : tie.Need-add-f Inv-loop μ-loop
-add-f c =
-    let here = c .before .before .before .before in omega (arith, numbers here, start here .pre)
-
-add-g : tie.Need-add-g Inv-loop μ-loop
-add-g c =
-    let here = c .before .before .before .before in omega (arith, numbers here, start here .pre)
-
-turned-difference-requires : tie.Need-turned-difference-requires Inv-loop μ-loop
-turned-difference-requires c κs =
+plain-butterfly-requires : tie.Need-plain-butterfly-requires Inv-loop μ-loop
+plain-butterfly-requires c κs =
     let here = c .before .before .before .before in
-    let n = numbers here in
     let ready = start here .pre in
-    (ready .modulus, ready .roots-below .each _ (omega arith), ready .multiple, omega (arith, ready .room), n .1, n .3)
+    (places-ready ready (here .before .loop .i) (here .loop-test .taken), ready .roots-below .each _ (omega arith))
 
-add-to : tie.Need-add-to Inv-loop μ-loop
-add-to c =
-    let here = c .before .before .before .before .before in omega (arith, numbers here, start here .pre, c .turned-difference .ensures .1)
-
-add-to-2 : tie.Need-add-to-2 Inv-loop μ-loop
-add-to-2 c =
-    let here = c .before .before .before .before .before in omega (arith, numbers here, start here .pre, c .turned-difference .ensures .1)
-
-slice-write-to-2 : tie.Need-slice-write-to-2 Inv-loop μ-loop
-slice-write-to-2 c =
-    let here = c .before .before .before .before .before in simp length-set (omega (arith, start here .pre .to-size, here .before .loop .inv .kept))
-
-sub-to : tie.Need-sub-to Inv-loop μ-loop
-sub-to c =
-    let here = c .before .before .before .before .before in omega (arith, numbers here, start here .pre, c .turned-difference .ensures .1)
-
-add-to-4 : tie.Need-add-to-4 Inv-loop μ-loop
-add-to-4 c =
-    let here = c .before .before .before .before .before in omega (arith, numbers here, start here .pre, c .turned-difference .ensures .1)
-
-slice-write-to-3 : tie.Need-slice-write-to-3 Inv-loop μ-loop
-slice-write-to-3 c =
-    let here = c .before .before .before .before .before in simp length-set (omega (arith, start here .pre .to-size, here .before .loop .inv .kept))
-
-sub-to-2 : tie.Need-sub-to-2 Inv-loop μ-loop
-sub-to-2 c =
-    let here = c .before .before .before .before .before in omega (arith, numbers here, start here .pre, c .turned-difference .ensures .1)
-
-add-to-6 : tie.Need-add-to-6 Inv-loop μ-loop
-add-to-6 c =
-    let here = c .before .before .before .before .before in omega (arith, numbers here, start here .pre, c .turned-difference .ensures .1)
-
-slice-write-to-4 : tie.Need-slice-write-to-4 Inv-loop μ-loop
-slice-write-to-4 c =
-    let here = c .before .before .before .before .before in simp length-set (omega (arith, start here .pre .to-size, here .before .loop .inv .kept))
+write-apart-requires : tie.Need-write-apart-requires Inv-loop μ-loop
+write-apart-requires c κs = omega (arith, start (turn (c .before)) .pre .to-size, turn (c .before) .before .loop .inv .kept)
 
 loop-again : tie.Need-loop-again Inv-loop μ-loop
 loop-again c =
-    let here = c .before .before .before .before .before in
-    let h = c .turned-difference in
-    let i = here .before .loop .i in
-    four-more (here .before .loop .inv) _ _ _ _ _ _ _ _ (omega arith) (omega arith) (omega arith) (omega arith) (here .loop-test .taken)
-    (omega (arith, start here .pre .to-size)) (quarter-turn (start here .pre) i (h .result) (here .loop-test .taken) (h .ensures))
+    let given = c .before .before .before .before in
+    let here = turn given in
+    let room : 0 + 4 * 64 ≤ length (start here .args .to .now) = omega (arith, start here .pre .to-size) in
+    rw (c .before .before .write-apart .ensures)
+    (rw zero-add at (four-more (here .before .loop .inv) _ _ _ _ (here .loop-test .taken) room (given .plain-butterfly .ensures)))
 
 returns : tie.Need-returns Inv-loop μ-loop
 returns c = quarters-all (c .before .loop .inv) (c .loop-test .left)
@@ -121,30 +66,8 @@ wide-spec =
     (λ c. search needs)
     (λ c. search needs)
     (λ c. search needs)
-    add-e
-    sub-f
-    add-f
-    add-g
-    turned-difference-requires
-    add-to
-    (λ c. search needs)
-    (λ c. search needs)
-    add-to-2
-    (λ c. search needs)
-    (λ c. search needs)
-    slice-write-to-2
-    (λ c. search needs)
-    sub-to
-    add-to-4
-    (λ c. search needs)
-    (λ c. search needs)
-    slice-write-to-3
-    (λ c. search needs)
-    sub-to-2
-    add-to-6
-    (λ c. search needs)
-    (λ c. search needs)
-    slice-write-to-4
+    plain-butterfly-requires
+    write-apart-requires
     (λ c. search needs)
     (λ c. search needs)
     loop-again

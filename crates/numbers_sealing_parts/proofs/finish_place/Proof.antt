@@ -1,4 +1,4 @@
--- `numbers_sealing::finish_place` meets its contract: a place of the sum of the middle products, and h times a message bit.
+-- `numbers_sealing_parts::finish_place` meets its contract: a place of the sum of the middle products, and h times a message bit.
 -- Assumes nothing.
 use native.Mathlib.Omega.{arith}
 use Rattle.residues.proofs.Laws.{remainder-below}

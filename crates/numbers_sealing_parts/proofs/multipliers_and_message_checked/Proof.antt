@@ -1,4 +1,4 @@
--- `numbers_sealing::multipliers_and_message_checked` meets its contract: the multipliers are checked before the message.
+-- `numbers_sealing_parts::multipliers_and_message_checked` meets its contract: the multipliers are checked before the message.
 -- Assumes nothing.
 use mathlib.Core.Path.{_∙_}
 use Prim.Native.Nat.{_+_}

@@ -1,14 +1,15 @@
--- The numbers of one turn: the difference that is multiplied, the butterflies of the two halves, and their bounds.
+-- The numbers inside a butterfly: the difference that is multiplied, the values of both butterflies, and their bounds.
 -- Assumes nothing.
 use mathlib.Core.Path.{_≡_, sym, _∙_}
 use Prim.Native.Nat.{ℕ, _+_, _-_, _*_, _%_, _≤_, _<_}
 use native.Mathlib.Nat.{mul-one, zero-mod}
 use native.Mathlib.Omega.{arith}
 use Rattle.maths.specs.Congruence.{Mod}
-use Rattle.maths.specs.Butterfly.{difference, Butterfly}
+use Rattle.maths.specs.Butterfly.{difference}
 use Rattle.maths.proofs.Congruence.{mod-refl, mod-trans, mod-add, mod-mul}
 use Rattle.maths.proofs.Fourfold.{difference-mod, difference-lift}
 use Rattle.montgomery.specs.Scaled.{Modulus}
+use Rattle.ntt_butterflies.specs.Lazy.{ButterflyReady, LazyButterfly}
 
 -- there is a modulus
 pub some-modulus : {q k : ℕ} → Modulus q k → 0 < q
@@ -29,21 +30,13 @@ twice q lift multiple =
 abbrev pub TurnedBy : ℕ → ℕ → ℕ → ℕ → ℕ → Type 0
 TurnedBy q r a b w = Mod q r (difference q a b * w) × (r < 2 * q)
 
--- a butterfly with numbers below 4 · lift
-pub record Turn (q lift t u v a b c d z₀ z₁ z₂ z₃ : ℕ) : Type 0 where
-  pub butterfly : Butterfly q t u v a b c d z₀ z₁ z₂ z₃
-  pub zeroth-below : z₀ < 4 * lift
-  pub first-below : z₁ < 4 * lift
-  pub second-below : z₂ < 4 * lift
-  pub third-below : z₃ < 4 * lift
-
-module _ {q : ℕ} (lift t u v a b c d : ℕ) (room : q ≤ lift) (a-below : a < lift) (b-below : b < lift) (c-below : c < lift) (d-below : d < lift) where
-  -- a turn of the first half
-  pub narrow-turn : (f h z₂ z₃ : ℕ) → TurnedBy q f a c t → TurnedBy q h b d u → TurnedBy q z₂ (a + c) (b + d) v → TurnedBy q z₃ f h v
-      → Turn q lift t u v a b c d (a + c + (b + d)) (f + h) z₂ z₃
-  narrow-turn f h z₂ z₃ f-is h-is z₂-is z₃-is =
+module _ {q k lift a b c d : ℕ} (ready : ButterflyReady q k lift a b c d) where
+  -- with three multipliers
+  pub twiddled-values : (t u v f h z₂ z₃ : ℕ) → TurnedBy q f a c t → TurnedBy q h b d u → TurnedBy q z₂ (a + c) (b + d) v → TurnedBy q z₃ f h v
+      → LazyButterfly q lift t u v a b c d (a + c + (b + d)) (f + h) z₂ z₃
+  twiddled-values t u v f h z₂ z₃ f-is h-is z₂-is z₃-is =
       record {
-        butterfly = record {
+        values = record {
           zeroth = mod-refl _;
           first = mod-add (f-is .0) (h-is .0);
           second = z₂-is .0;
@@ -55,23 +48,22 @@ module _ {q : ℕ} (lift t u v a b c d : ℕ) (room : q ≤ lift) (a-below : a <
         third-below = omega arith;
       }
 
--- a turn of the second half
-module _ {q : ℕ} (lift u a b c d : ℕ) (some : 0 < q) (multiple : lift % q ≡ 0) (room : q ≤ lift) (a-below : a < lift) (b-below : b < lift) (c-below : c < lift)
-    (d-below : d < lift) (h : ℕ) (h-is : TurnedBy q h b d u) where
-  -- the difference of a and c, times 1
-  wide-difference : Mod q (a + (lift - c)) (difference q a c * 1)
-  wide-difference = rw mul-one (difference-lift q a c lift some multiple (omega arith))
+  -- with one: the difference of a and c, times 1
+  plain-difference : Mod q (a + (lift - c)) (difference q a c * 1)
+  plain-difference = rw mul-one (difference-lift q a c lift (some-modulus (ready .modulus)) (ready .multiple) (omega arith))
 
-  pub wide-turn : Turn q lift 1 u 1 a b c d (a + c + (b + d)) (a + (lift - c) + h) (a + c + (2 * lift - (b + d))) (a + (lift - c) + (2 * lift - h))
-  wide-turn =
-      let double = twice q lift multiple in
+  pub plain-values : (u h : ℕ) → TurnedBy q h b d u
+      → LazyButterfly q lift 1 u 1 a b c d (a + c + (b + d)) (a + (lift - c) + h) (a + c + (2 * lift - (b + d))) (a + (lift - c) + (2 * lift - h))
+  plain-values u h h-is =
+      let some = some-modulus (ready .modulus) in
+      let double = twice q lift (ready .multiple) in
       record {
-        butterfly = record {
+        values = record {
           zeroth = mod-refl _;
-          first = mod-add wide-difference (h-is .0);
+          first = mod-add plain-difference (h-is .0);
           second = rw mul-one (difference-lift q (a + c) (b + d) (2 * lift) some double (omega arith));
           third = rw (mul-one (difference q (difference q a c * 1) (difference q b d * u)))
-              (mod-trans (difference-lift q (a + (lift - c)) h (2 * lift) some double (omega arith)) (difference-mod wide-difference (h-is .0)));
+              (mod-trans (difference-lift q (a + (lift - c)) h (2 * lift) some double (omega arith)) (difference-mod plain-difference (h-is .0)));
         };
         zeroth-below = omega arith;
         first-below = omega arith;

@@ -1,4 +1,4 @@
--- `ntt_rows::settle` meets its contract: after i turns the first i numbers are residues, and the others are as they were.
+-- `ntt_settle::settle` meets its contract: after i turns the first i numbers are residues, and the others are as they were.
 -- Assumes nothing.
 use mathlib.Core.Path.{refl, sym, ap, _∙_}
 use Prim.Native.Nat.{ℕ, _*_, _-_, _%_, _<_}
@@ -10,8 +10,8 @@ use Rattle.maths.proofs.Vector.{tabulate-length, tabulate-at}
 use Rattle.calls.proofs.Filled.{Filled, filled-none, filled-more, filled-whole, ahead}
 use Rattle.montgomery.specs.Scaled.{unscale}
 use borrow.Author.Needs.{needs}
-use Rattle.ntt_rows.proofs.settle.Statement.{statement}
-use Rattle.ntt_rows.proofs.settle.Tie as tie
+use Rattle.ntt_settle.proofs.settle.Statement.{statement}
+use Rattle.ntt_settle.proofs.settle.Tie as tie
 
 abbrev Inv-loop : tie.InvT-loop
 Inv-loop x₀ by q k i₀ x i = Filled x₀ 0 (length x₀) (tabulate (length x₀) (λ j. at x₀ j * unscale q by % q)) i x
@@ -24,11 +24,11 @@ loop-holds c = filled-none (tabulate-length _ _) (omega arith)
 
 loop-again : tie.Need-loop-again Inv-loop μ-loop
 loop-again c =
-    let args = c .before .before .before .before .before .before .args in
-    let turn = c .before .before .before .before .loop in
-    let below : turn .i < length (args .x .now) = omega (arith, turn .inv .kept-length, c .before .before .before .loop-test .taken) in
+    let args = c .before .before .before .before .before .args in
+    let turn = c .before .before .before .loop in
+    let below : turn .i < length (args .x .now) = omega (arith, turn .inv .kept-length, c .before .before .loop-test .taken) in
     filled-more 0 (turn .inv) below (sym (zero-add (turn .i)))
-    (c .reduce-once .ensures ∙ c .before .product .ensures .0 ∙ ap (λ (y : ℕ). y * unscale (args .q) (args .by) % args .q) (ahead (turn .inv))
+    (c .settle-number .ensures ∙ ap (λ (y : ℕ). y * unscale (args .q) (args .by) % args .q) (ahead (turn .inv))
     ∙ sym (tabulate-at (length (args .x .now)) _ (turn .i) below))
 
 returns : tie.Need-returns Inv-loop μ-loop
@@ -43,7 +43,6 @@ settle-spec =
     loop-holds
     (λ c. search needs)
     (λ c. search needs)
-    (λ c κs. search needs)
     (λ c κs. search needs)
     (λ c. search needs)
     (λ c. search needs)

@@ -1,11 +1,11 @@
--- `ntt_steps::turned_difference` meets its contract: with a multiple of q added, no difference falls below 0.
+-- `ntt_butterflies::turned_difference` meets its contract: with a multiple of q added, no difference falls below 0.
 -- Assumes nothing.
 use native.Mathlib.Omega.{arith}
 use Rattle.montgomery.specs.Scaled.{unscale}
-use Rattle.ntt_steps.proofs.Turns.{some-modulus, difference-product}
+use Rattle.ntt_butterflies.proofs.Lazy.{some-modulus, difference-product}
 use borrow.Author.Needs.{needs}
-use Rattle.ntt_steps.proofs.turned_difference.Statement.{statement}
-use Rattle.ntt_steps.proofs.turned_difference.Tie as tie
+use Rattle.ntt_butterflies.proofs.turned_difference.Statement.{statement}
+use Rattle.ntt_butterflies.proofs.turned_difference.Tie as tie
 
 returns : tie.Need-returns
 returns c =

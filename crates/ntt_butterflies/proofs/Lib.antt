@@ -1,0 +1,2 @@
+-- Laws of butterflies with lazy reduction.
+pub mod Lazy
