@@ -35,7 +35,8 @@ fn strided_sum(
     total
 }
 
-// Fills `to` with values of the transforms of the columns of `x`, which has `m` rows; `k` is the negated inverse of q, `s` the remainder of 2^64.
+// Fills `to` with values of the transforms of the columns of `x`, which has `m` rows; each is divided by 2^32 on the way.
+// `k` is the negated inverse of q modulo 2^32 and `s` the remainder of 2^64 by q; the reduction needs both.
 fn fill_columns(
     to: &mut [u32],
     x: &[u32],
@@ -66,7 +67,7 @@ fn twist_exponent(i: usize, row: usize) -> usize
     i / row * (i % row)
 }
 
-// Multiplies each number by the power of its row and column.
+// Multiplies each number by the power of its row and column; each is divided by 2^32 on the way, with `k` as above.
 fn twist(x: &mut [u32], powers: &[u32], row: usize, q: u32, k: u32)
     requires { ⌜ Plain q row (now powers) (now x) × Modulus q k ⌝ }
     ensures { λ _. ⌜ Lazily q (twisted q row (now (powers .entry)) (now (x .entry))) (now (x .exit)) ⌝ }
@@ -79,7 +80,7 @@ fn twist(x: &mut [u32], powers: &[u32], row: usize, q: u32, k: u32)
     }
 }
 
-// Fills `to` with the transform of each row of `x`.
+// Fills `to` with the transform of each row of `x`; each number is divided by 2^32 on the way, with `k` and `s` as above.
 fn fill_rows(
     to: &mut [u32],
     x: &[u32],
