@@ -23,7 +23,7 @@ fn multiply(x: &mut [u32], y: &[u32], q: u32, k: u32)
 {
     let mut j: usize = 0;
     while j < x.len() {
-        x[j] = residues::reduce_once(montgomery::product(x[j], y[j], q, k), q);
+        x[j] = ntt_settle::settle_number(x[j], y[j], q, k);
         j += 1;
     }
 }
@@ -36,7 +36,7 @@ pub fn accumulate(total: &mut [u32], x: &[u32], y: &[u32], q: u32, k: u32)
 {
     let mut j: usize = 0;
     while j < total.len() {
-        let product = residues::reduce_once(montgomery::product(y[j], x[j], q, k), q);
+        let product = ntt_settle::settle_number(y[j], x[j], q, k);
         total[j] = residues::add(total[j], product, q);
         j += 1;
     }

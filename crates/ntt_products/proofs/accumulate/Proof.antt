@@ -36,29 +36,27 @@ turn-inside c = omega (arith, turn-below c, start c .pre .1)
 loop-holds : tie.Need-loop-holds Inv-loop μ-loop
 loop-holds c = filled-none (accumulated-length _ _ _ _) (omega arith)
 
-product-requires : tie.Need-product-requires Inv-loop μ-loop
-product-requires c κs =
+settle-number-requires : tie.Need-settle-number-requires Inv-loop μ-loop
+settle-number-requires c κs =
     let at = c .before .before in
     (start at .pre .0, start at .pre .4 .each (turn at .loop .j) (turn-below at))
 
-reduce-once-requires : tie.Need-reduce-once-requires Inv-loop μ-loop
-reduce-once-requires c κs = (c .product .ensures .1, start (c .before .before .before) .pre .0 .modulus .small)
-
 add-requires : tie.Need-add-requires Inv-loop μ-loop
 add-requires c κs =
-    let here = c .before .before .before .before .before in
+    let here = c .before .before .before .before in
     let pre = start here .pre in
     let residue : at (start here .args .total .now) (turn here .loop .j) < start here .args .q = pre .3 .each (turn here .loop .j) (turn-below here) in
-    (rw (ahead (turn here .loop .inv)) residue, rw (c .before .reduce-once .ensures) (mod-lt _ (omega (arith, pre .0 .modulus .some))), pre .0 .modulus .small)
+    let modulus = pre .0 .modulus in
+    (rw (ahead (turn here .loop .inv)) residue, rw (c .before .settle-number .ensures) (mod-lt _ (omega (arith, modulus .some))), modulus .small)
 
 loop-again : tie.Need-loop-again Inv-loop μ-loop
 loop-again c =
-    let here = c .before .before .before .before .before .before in
+    let here = c .before .before .before .before .before in
     let args = start here .args in
     let this = turn here .loop in
     filled-more 0 (this .inv) (turn-below here) (sym (zero-add (this .j)))
     (c .add .ensures
-    ∙ rw (ahead (this .inv), c .before .before .reduce-once .ensures, c .before .before .before .product .ensures .0)
+    ∙ rw (ahead (this .inv), c .before .before .settle-number .ensures)
     (sym (accumulated-scaled (args .q) (args .total .now) (args .x .now) (args .y .now) (this .j) (turn-below here) (turn-inside here))))
 
 returns : tie.Need-returns Inv-loop μ-loop
@@ -75,8 +73,7 @@ accumulate-spec =
     (λ c. search needs)
     (λ c. search needs)
     (λ c. search needs)
-    product-requires
-    reduce-once-requires
+    settle-number-requires
     (λ c. search needs)
     (λ c. search needs)
     add-requires

@@ -21,25 +21,20 @@ abbrev μ-loop : tie.MeasureT-loop
 loop-holds : tie.Need-loop-holds Inv-loop μ-loop
 loop-holds c = filled-none (products-length _ _ _) (omega arith)
 
-product-requires : tie.Need-product-requires Inv-loop μ-loop
-product-requires c κs =
+settle-number-requires : tie.Need-settle-number-requires Inv-loop μ-loop
+settle-number-requires c κs =
     let start = c .before .before .before .before .before .before in
     let turn = c .before .before .before .loop in
     let below : turn .j < length (start .args .x .now) = omega (arith, turn .inv .kept-length, c .before .before .loop-test .taken) in
     (start .pre .0, start .pre .2 .each (turn .j) below)
 
-reduce-once-requires : tie.Need-reduce-once-requires Inv-loop μ-loop
-reduce-once-requires c κs =
-    (c .product .ensures .1, c .before .before .before .before .before .before .before .pre .0 .modulus .small)
-
 loop-again : tie.Need-loop-again Inv-loop μ-loop
 loop-again c =
-    let start = c .before .before .before .before .before .before .before .before in
-    let turn = c .before .before .before .before .before .loop in
-    let below : turn .j < length (start .args .x .now) = omega (arith, turn .inv .kept-length, c .before .before .before .before .loop-test .taken) in
+    let start = c .before .before .before .before .before .before .before in
+    let turn = c .before .before .before .before .loop in
+    let below : turn .j < length (start .args .x .now) = omega (arith, turn .inv .kept-length, c .before .before .before .loop-test .taken) in
     filled-more 0 (turn .inv) below (sym (zero-add (turn .j)))
-    (c .reduce-once .ensures
-    ∙ c .before .product .ensures .0
+    (c .settle-number .ensures
     ∙ rw (ahead (turn .inv)) (sym (products-at (start .args .q) (start .args .x .now) (start .args .y .now) (turn .j) below)))
 
 returns : tie.Need-returns Inv-loop μ-loop
@@ -56,8 +51,7 @@ multiply-spec =
     (λ c. search needs)
     (λ c. search needs)
     (λ c. search needs)
-    product-requires
-    reduce-once-requires
+    settle-number-requires
     (λ c. search needs)
     (λ c. search needs)
     (λ c. search needs)
