@@ -1,20 +1,20 @@
 -- Steps whose numbers are kept below 2 · q, each divided by 2^32 on the way: the loop that writes them, that such divisions go through columns, twist and
 -- rows as a factor, and that the settling at the end makes up for them.
 -- Assumes nothing.
-use mathlib.Core.Path.{_≡_, refl, sym, ap, _∙_}
+use mathlib.Core.Path.{_≡_, sym, ap, _∙_}
 use mathlib.Core.Logic.{inl, inr}
 use mathlib.Core.List.{List}
 use Prim.Native.Nat.{ℕ, _+_, _-_, _*_, _/_, _%_, _^_, _≤_, _<_}
-use native.Mathlib.Nat.{eq-zero-or-pos, eq-or-lt-of-le, zero-mul, one-mul, mod-mod, mod-lt, le-of-eq}
+use native.Mathlib.Nat.{eq-zero-or-pos, zero-add, zero-mul, one-mul, mod-mod, mod-lt, le-of-eq}
 use native.Mathlib.Omega.{arith}
-use lib.ListN.{length, set, length-set}
-use lib.Seq.{getD-set-same, getD-set-other}
+use lib.ListN.{length, set}
 use Rattle.maths.specs.Vector.{at, tabulate}
 use Rattle.maths.specs.Congruence.{Mod}
 use Rattle.maths.specs.Transform.{send, recover}
 use Rattle.maths.proofs.Vector.{at-past, tabulate-length, tabulate-at, equal-by-place}
 use Rattle.maths.proofs.Sum.{sum-mul-right}
 use Rattle.maths.proofs.Congruence.{mod-refl, mod-eq, mod-sym, mod-trans, mod-mul, mod-sum, mod-remainder}
+use Rattle.calls.proofs.Written.{Written, written-more}
 use Rattle.montgomery.specs.Scaled.{unscale, Odd}
 use Rattle.montgomery.proofs.Laws.{back, unscale-back, unscale-cong, unscale-product, unscale-remainder, unscale-power}
 use Rattle.montgomery.proofs.Laws.{four-scales, unscale-fourfold}
@@ -22,79 +22,59 @@ use Rattle.ntt_plain.specs.Plain.{stridedSum, columns, twisted, rows, sc
 use Rattle.ntt_plain.proofs.Steps.{columns-length, twisted-length, rows-length, scaled-length, columns-at, twisted-at, rows-at, scaled-at}
 use Rattle.ntt_plain.proofs.Steps.{RootPowers, rows-sent, columns-recovered}
 
--- what is written at one place: below 2 · q, and congruent to the exact number divided by 2^32
-pub record Lazy (q exact r : ℕ) : Type 0 where
+-- what is written at place j: below 2 · q, and congruent to the exact number there divided by 2^32
+pub record Lazy (q : ℕ) (exact : List ℕ) (j r : ℕ) : Type 0 where
   pub below : r < 2 * q
-  pub value : Mod q r (unscale q exact)
+  pub value : Mod q r (unscale q (at exact j))
 
 -- the first i numbers of new are written, and the others are those of old
-pub record Written (q : ℕ) (exact old : List ℕ) (i : ℕ) (new : List ℕ) : Type 0 where
-  pub size : length old ≡ length exact
-  pub within : i ≤ length exact
-  pub kept-length : length new ≡ length old
-  pub each : (j : ℕ) → j < i → Lazy q (at exact j) (at new j)
-  pub ahead : (j : ℕ) → i ≤ j → at new j ≡ at old j
+abbrev pub LazilyWritten : ℕ → List ℕ → List ℕ → ℕ → List ℕ → Type 0
+LazilyWritten q exact old i new = Written (Lazy q exact) 0 (length old) old i new
 
-module _ {q : ℕ} {exact old : List ℕ} where
-  -- before the first turn
-  pub written-none : length old ≡ length exact → Written q exact old 0 old
-  written-none e = record { size = e; within = omega arith; kept-length = refl; each = λ j h. absurd (omega arith); ahead = λ j h. refl }
-
+module _ {q : ℕ} {exact old : List ℕ} {i : ℕ} {new : List ℕ} (w : LazilyWritten q exact old i new) where
   -- a turn writes the next number
-  written-more : {i r : ℕ} {new : List ℕ} → Written q exact old i new → i < length exact → Lazy q (at exact i) r
-      → Written q exact old (i + 1) (set new i r)
-  written-more {i} {r} {new} w h made =
-      record {
-        size = w .size;
-        within = omega arith;
-        kept-length = length-set new i r ∙ w .kept-length;
-        each = λ j l.
-            elim (eq-or-lt-of-le {n = j} {m = i} (omega arith)) [
-              | inl last ↦ rw (last, getD-set-same new i r 0 (omega (arith, w .kept-length, w .size))) made
-              | inr before ↦ rw (getD-set-other new i j r 0 (λ e. omega arith)) (w .each j before)
-            ];
-        ahead = λ j l. getD-set-other new i j r 0 (λ e. omega arith) ∙ w .ahead j (omega arith);
-      }
+  lazily-more : {r : ℕ} → i < length old → Lazy q exact i r → LazilyWritten q exact old (i + 1) (set new i r)
+  lazily-more {r} h made = written-more w i r (sym (zero-add i)) h (omega arith) made
 
   -- after the last turn
-  pub written-all : {i : ℕ} {new : List ℕ} → Written q exact old i new → length exact ≤ i → Lazily q exact new
-  written-all w h =
+  pub lazily-all : length old ≡ length exact → length old ≤ i → Lazily q exact new
+  lazily-all size h =
+      let each : (j : ℕ) → j < length exact → Lazy q exact j (at new j) = λ j l. rw zero-add at (w .each j (omega arith)) in
       record {
-        kept = w .kept-length ∙ w .size;
-        below = record { each = λ j l. w .each j (omega (arith, w .kept-length, w .size)) .below };
-        values = λ j l. w .each j (omega arith) .value;
+        kept = w .kept ∙ size;
+        below = record { each = λ j l. each j (omega (arith, w .kept)) .below };
+        values = λ j l. each j l .value;
       }
 
 -- the long step at a place of columns or rows
-lazy-sum : {q exact r : ℕ} (s : ℕ) → exact ≡ s % q → r % q ≡ unscale q s → r < 2 * q → Lazy q exact r
-lazy-sum {q} {exact} s e value below =
-    let same : unscale q exact ≡ unscale q s = unscale-cong (mod-trans (mod-eq e) (mod-remainder q s)) in
+lazy-sum : {q j r : ℕ} {exact : List ℕ} (s : ℕ) → at exact j ≡ s % q → r % q ≡ unscale q s → r < 2 * q → Lazy q exact j r
+lazy-sum {q} {j} {exact = exact} s e value below =
+    let same : unscale q (at exact j) ≡ unscale q s = unscale-cong (mod-trans (mod-eq e) (mod-remainder q s)) in
     record { below = below; value = rw same (record { same = value ∙ sym (unscale-remainder q s) }) }
 
 -- the product at a place of the twist
-lazy-product : {q exact r : ℕ} (a w : ℕ) → exact ≡ a * w % q → r % q ≡ a * unscale q w % q → r < 2 * q → Lazy q exact r
+lazy-product : {q j r : ℕ} {exact : List ℕ} (a w : ℕ) → at exact j ≡ a * w % q → r % q ≡ a * unscale q w % q → r < 2 * q → Lazy q exact j r
 lazy-product {q} a w e value below = lazy-sum (a * w) e (value ∙ sym (unscale-product q a w)) below
 
 -- a turn of each loop
-pub columns-more : {q i r : ℕ} {old new : List ℕ} (ρ m s : ℕ) (powers x : List ℕ) → Written q (columns q ρ m (length old) powers x) old i new
+pub columns-more : {q i r : ℕ} {old new : List ℕ} (ρ m s : ℕ) (powers x : List ℕ) → LazilyWritten q (columns q ρ m (length old) powers x) old i new
     → i < length old → s ≡ stridedSum x (i % ρ) ρ m powers (i / ρ * ρ) → r % q ≡ unscale q s → r < 2 * q
-    → Written q (columns q ρ m (length old) powers x) old (i + 1) (set new i r)
+    → LazilyWritten q (columns q ρ m (length old) powers x) old (i + 1) (set new i r)
 columns-more {q} {i} {old = old} ρ m s powers x w h e value below =
-    written-more w (omega (arith, w .size))
-    (lazy-sum s (columns-at q ρ m (length old) powers x i h ∙ ap (λ (t : ℕ). t % q) (sym e)) value below)
+    lazily-more w h (lazy-sum s (columns-at q ρ m (length old) powers x i h ∙ ap (λ (t : ℕ). t % q) (sym e)) value below)
 
-pub rows-more : {q i r : ℕ} {old new : List ℕ} (ρ δ s : ℕ) (powers x : List ℕ) → Written q (rows q ρ δ powers x) old i new
-    → i < length x → s ≡ stridedSum x (i / ρ * ρ) 1 ρ powers (i % ρ * δ) → r % q ≡ unscale q s → r < 2 * q
-    → Written q (rows q ρ δ powers x) old (i + 1) (set new i r)
-rows-more {q} {i} ρ δ s powers x w h e value below =
-    written-more w (rw rows-length h) (lazy-sum s (rows-at q ρ δ powers x i h ∙ ap (λ (t : ℕ). t % q) (sym e)) value below)
+pub rows-more : {q i r : ℕ} {old new : List ℕ} (ρ δ s : ℕ) (powers x : List ℕ) → LazilyWritten q (rows q ρ δ powers x) old i new
+    → length old ≡ length x → i < length x → s ≡ stridedSum x (i / ρ * ρ) 1 ρ powers (i % ρ * δ) → r % q ≡ unscale q s → r < 2 * q
+    → LazilyWritten q (rows q ρ δ powers x) old (i + 1) (set new i r)
+rows-more {q} {i} ρ δ s powers x w size h e value below =
+    lazily-more w (omega arith) (lazy-sum s (rows-at q ρ δ powers x i h ∙ ap (λ (t : ℕ). t % q) (sym e)) value below)
 
-pub twisted-more : {q i r : ℕ} {old new : List ℕ} (ρ y : ℕ) (powers : List ℕ) → Written q (twisted q ρ powers old) old i new
+pub twisted-more : {q i r : ℕ} {old new : List ℕ} (ρ y : ℕ) (powers : List ℕ) → LazilyWritten q (twisted q ρ powers old) old i new
     → i < length old → y ≡ i / ρ * (i % ρ) → r % q ≡ at new i * unscale q (at powers y) % q → r < 2 * q
-    → Written q (twisted q ρ powers old) old (i + 1) (set new i r)
+    → LazilyWritten q (twisted q ρ powers old) old (i + 1) (set new i r)
 twisted-more {q} {i} {old = old} {new} ρ y powers w h e value below =
-    let exact : at (twisted q ρ powers old) i ≡ at new i * at powers y % q = rw (w .ahead i (omega arith), e) (twisted-at q ρ powers old i h) in
-    written-more w (omega (arith, w .size)) (lazy-product (at new i) (at powers y) exact value below)
+    let exact : at (twisted q ρ powers old) i ≡ at new i * at powers y % q = rw (w .others i (inr (omega arith)), e) (twisted-at q ρ powers old i h) in
+    lazily-more w h (lazy-product (at new i) (at powers y) exact value below)
 
 -- each number of ys is congruent to that of xs times f
 record Times (q f : ℕ) (xs ys : List ℕ) : Type 0 where

@@ -15,9 +15,9 @@ use Rattle.maths.proofs.Power.{pow-mul}
 use Rattle.maths.proofs.Convolution.{transform-mod}
 use Rattle.maths.proofs.Radix.{whole-power}
 use Rattle.maths.proofs.Fourfold.{row-values}
+use Rattle.calls.proofs.Written.{Written}
 use Rattle.montgomery.specs.Scaled.{unscale}
 use Rattle.ntt_steps.specs.Steps.{SixteenReady, Roots, Sixteen, Exchanged}
-use Rattle.ntt_steps.proofs.Written.{Written}
 use Rattle.ntt_tables.specs.Tables.{RowTables}
 use Rattle.ntt_rows.specs.Rows.{RowReady, Row, MultiplyReady, Multiplied, ForwardRow, InverseRow}
 

@@ -7,8 +7,8 @@ use Prim.Native.Nat.{ℕ, _+_, _*_, _≤_, _<_}
 use native.Mathlib.Omega.{arith}
 use lib.ListN.{length}
 use Rattle.maths.specs.Vector.{at}
+use Rattle.calls.proofs.Written.{last-or-before}
 use Rattle.ntt_steps.specs.Steps.{ExchangedRow, Exchanged}
-use Rattle.ntt_steps.proofs.Written.{last-or-before}
 
 -- the first n rows are done
 pub record RowsExchanged (from old : List ℕ) (n : ℕ) (to : List ℕ) : Type 0 where

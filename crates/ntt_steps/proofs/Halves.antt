@@ -13,10 +13,11 @@ use Rattle.maths.specs.Congruence.{Mod}
 use Rattle.maths.specs.Transform.{transformAt}
 use Rattle.maths.specs.Butterfly.{Butterfly}
 use Rattle.maths.proofs.Fourfold.{sixteen-values}
+use Rattle.calls.proofs.Written.{last-or-before}
 use Rattle.montgomery.specs.Scaled.{unscale}
 use Rattle.ntt_butterflies.specs.Lazy.{ButterflyReady, LazyButterfly}
 use Rattle.ntt_steps.specs.Steps.{StepReady, PartValue, Part, Parts, Quarters, SixteenReady, Roots, Sixteen}
-use Rattle.ntt_steps.proofs.Written.{FourWritten, last-or-before}
+use Rattle.ntt_steps.proofs.FourWritten.{FourWritten}
 
 -- what a turn of part p writes
 abbrev pub PartTurn : ℕ → ℕ → List ℕ → List ℕ → ℕ → ℕ → ℕ → ℕ → ℕ → ℕ → Type 0

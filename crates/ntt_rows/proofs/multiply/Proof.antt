@@ -2,7 +2,7 @@
 -- Assumes nothing.
 use Prim.Native.Nat.{_-_}
 use native.Mathlib.Omega.{arith}
-use Rattle.ntt_steps.proofs.Written.{Written, written-none, written-more}
+use Rattle.calls.proofs.Written.{Written, written-none, written-more}
 use Rattle.ntt_rows.proofs.Rows.{Product, multiplied}
 use borrow.Author.Needs.{needs}
 use Rattle.ntt_rows.proofs.multiply.Statement.{statement}

@@ -4,7 +4,7 @@ use Prim.Native.Nat.{_+_, _*_, _-_}
 use mathlib.Core.Path.{_≡_, refl}
 use native.Mathlib.Omega.{arith}
 use Rattle.maths.specs.Vector.{at}
-use Rattle.ntt_steps.proofs.Written.{Written, written-none, written-more}
+use Rattle.calls.proofs.Written.{Written, written-none, written-more, written-others}
 use borrow.Author.Needs.{needs}
 use Rattle.ntt_steps.proofs.exchange_row.Statement.{statement}
 use Rattle.ntt_steps.proofs.exchange_row.Tie as tie
@@ -22,7 +22,7 @@ loop-again : tie.Need-loop-again Inv-loop μ-loop
 loop-again c = written-more (c .before .before .loop .inv) _ _ refl (c .before .loop-test .taken) (omega (arith, c .before .before .before .pre)) refl
 
 returns : tie.Need-returns Inv-loop μ-loop
-returns c = record { values = λ b l. c .before .loop .inv .each b (omega (arith, c .loop-test .left)); others = c .before .loop .inv .others }
+returns c = record { values = λ b l. c .before .loop .inv .each b (omega (arith, c .loop-test .left)); others = written-others (c .before .loop .inv) }
 
 pub exchange-row-spec : {M : Type 1} → statement M
 exchange-row-spec =

@@ -4,7 +4,7 @@ use Prim.Native.Nat.{_+_, _-_, _*_, _≤_}
 use lib.ListN.{length}
 use native.Mathlib.Nat.{zero-add}
 use native.Mathlib.Omega.{arith}
-use Rattle.ntt_steps.proofs.Written.{FourWritten, four-none, four-more}
+use Rattle.ntt_steps.proofs.FourWritten.{FourWritten, four-none, four-more}
 use Rattle.ntt_steps.proofs.Halves.{QuarterTurn, quarters-all, places-ready}
 use borrow.Author.Needs.{needs}
 use Rattle.ntt_steps.proofs.wide.Statement.{statement}

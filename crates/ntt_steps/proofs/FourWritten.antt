@@ -1,51 +1,16 @@
--- What a loop has written so far: one number a turn at consecutive places, or four numbers a turn at consecutive places of four neighbouring blocks, of
--- which something is known; other places are as before.
+-- What a loop has written so far, four numbers a turn at consecutive places of four neighbouring blocks: something is known of each four, and other places
+-- are as before.
 -- Assumes nothing.
 use mathlib.Core.Path.{_≡_, refl, _∙_}
-use mathlib.Core.Logic.{_⊎_, inl, inr, _≢_}
+use mathlib.Core.Logic.{_⊎_, _≢_}
 use mathlib.Core.List.{List}
 use Prim.Native.Nat.{ℕ, _+_, _*_, _≤_, _<_}
-use native.Mathlib.Nat.{eq-or-lt-of-le, le-of-suc-le-suc}
-use native.Mathlib.Numerals.{add-one}
 use native.Mathlib.Omega.{arith}
 use lib.ListN.{length, set, length-set}
 use lib.Seq.{getD-set-same, getD-set-other}
 use Rattle.maths.specs.Vector.{at}
+use Rattle.calls.proofs.Written.{last-or-before, outside}
 use Rattle.ntt_steps.specs.Steps.{writtenApart}
-
--- the last turn, or one before it
-pub last-or-before : {i j : ℕ} {A : Type 0} → j < i + 1 → (j ≡ i → A) → (j < i → A) → A
-last-or-before h last before = elim (eq-or-lt-of-le (le-of-suc-le-suc (rw add-one at h))) [ inl e ↦ last e | inr l ↦ before l ]
-
--- a place outside is none of those inside
-outside : {start size k : ℕ} → (k < start) ⊎ (start + size ≤ k) → (j : ℕ) → j < size → k ≢ start + j
-outside (inl low) j h e = omega arith
-outside (inr high) j h e = omega arith
-
--- the first i of the size places from start on are written, and P holds of each
-pub record Written (P : ℕ → ℕ → Type 0) (start size : ℕ) (old : List ℕ) (i : ℕ) (to : List ℕ) : Type 0 where
-  pub within : i ≤ size
-  pub kept : length to ≡ length old
-  pub each : (j : ℕ) → j < i → P j (at to (start + j))
-  pub others : (k : ℕ) → (k < start) ⊎ (start + size ≤ k) → at to k ≡ at old k
-
--- before the first turn
-pub written-none : (P : ℕ → ℕ → Type 0) (start size : ℕ) (old : List ℕ) → Written P start size old 0 old
-written-none P start size old = record { within = omega arith; kept = refl; each = λ j h. absurd (omega arith); others = λ k h. refl }
-
--- one more turn
-pub written-more : {P : ℕ → ℕ → Type 0} {start size : ℕ} {old : List ℕ} {i : ℕ} {to : List ℕ} → Written P start size old i to → (k v : ℕ) → k ≡ start + i
-    → i < size → start + size ≤ length old → P i v → Written P start size old (i + 1) (set to k v)
-written-more {P} {start} {size} {old} {i} {to} t k v place more room holds =
-    record {
-      within = omega arith;
-      kept = length-set to k v ∙ t .kept;
-      each = λ j h.
-          last-or-before h
-          (λ e. rw (e, ← place, getD-set-same to k v 0 (omega (arith, t .kept))) holds)
-          (λ l. rw (getD-set-other to k (start + j) v 0 (λ e. omega arith)) (t .each j l));
-      others = λ j h. getD-set-other to k j v 0 (λ e. outside h i more (e ∙ place)) ∙ t .others j h;
-    }
 
 -- the first i places of each of the four blocks of size places from start on are written, and P holds of each four
 pub record FourWritten (P : ℕ → ℕ → ℕ → ℕ → ℕ → Type 0) (start size : ℕ) (old : List ℕ) (i : ℕ) (to : List ℕ) : Type 0 where
