@@ -50,13 +50,13 @@ module _ {q k lift a b c d : ℕ} (ready : ButterflyReady q k lift a b c d) wher
 
   -- with one: the difference of a and c, times 1
   plain-difference : Mod q (a + (lift - c)) (difference q a c * 1)
-  plain-difference = rw mul-one (difference-lift q a c lift (some-modulus (ready .modulus)) (ready .multiple) (omega arith))
+  plain-difference = rw mul-one (difference-lift q a c lift (some-modulus (ready .lifted .modulus)) (ready .lifted .multiple) (omega arith))
 
   pub plain-values : (u h : ℕ) → TurnedBy q h b d u
       → LazyButterfly q lift 1 u 1 a b c d (a + c + (b + d)) (a + (lift - c) + h) (a + c + (2 * lift - (b + d))) (a + (lift - c) + (2 * lift - h))
   plain-values u h h-is =
-      let some = some-modulus (ready .modulus) in
-      let double = twice q lift (ready .multiple) in
+      let some = some-modulus (ready .lifted .modulus) in
+      let double = twice q lift (ready .lifted .multiple) in
       record {
         values = record {
           zeroth = mod-refl _;

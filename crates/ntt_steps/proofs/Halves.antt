@@ -52,10 +52,7 @@ module _ {q k lift : ℕ} {roots from to : List ℕ} (ready : StepReady q k lift
   places-ready j h =
       let below = ready .from-below .each in
       record {
-        modulus = ready .modulus;
-        multiple = ready .multiple;
-        two-q = ready .two-q;
-        room = ready .room;
+        lifted = ready .lifted;
         a-below = below j (omega arith);
         b-below = below (64 + j) (omega arith);
         c-below = below (128 + j) (omega arith);
@@ -115,10 +112,7 @@ pub parts-next : {q k lift : ℕ} {roots from old : List ℕ} {n : ℕ} {to : Li
     → StepReady q k lift roots from to
 parts-next ready t =
     record {
-      modulus = ready .modulus;
-      multiple = ready .multiple;
-      two-q = ready .two-q;
-      room = ready .room;
+      lifted = ready .lifted;
       roots-size = ready .roots-size;
       roots-below = ready .roots-below;
       from-size = ready .from-size;
@@ -199,10 +193,12 @@ halves some narrow wide =
 pub narrow-ready : {q k : ℕ} {roots from to half : List ℕ} → SixteenReady q k roots from to → length half ≡ 256 → StepReady q k (2 * q) roots from half
 narrow-ready {q} ready size =
     record {
-      modulus = ready .modulus;
-      multiple = mul-mod-left 2 q;
-      two-q = omega arith;
-      room = omega (arith, ready .modulus .modulus .small);
+      lifted = record {
+        modulus = ready .modulus;
+        multiple = mul-mod-left 2 q;
+        two-q = omega arith;
+        room = omega (arith, ready .modulus .modulus .small);
+      };
       roots-size = ready .roots-size;
       roots-below = ready .roots-below;
       from-size = ready .from-size;
@@ -215,10 +211,12 @@ pub wide-ready : {q k : ℕ} {roots from to half : List ℕ} → SixteenReady q 
     → StepReady q k (8 * q) roots half to
 wide-ready {q} ready size narrow =
     record {
-      modulus = ready .modulus;
-      multiple = mul-mod-left 8 q;
-      two-q = omega arith;
-      room = omega (arith, ready .modulus .modulus .small);
+      lifted = record {
+        modulus = ready .modulus;
+        multiple = mul-mod-left 8 q;
+        two-q = omega arith;
+        room = omega (arith, ready .modulus .modulus .small);
+      };
       roots-size = ready .roots-size;
       roots-below = ready .roots-below;
       from-size = size;

@@ -3,24 +3,22 @@
 use mathlib.Core.Path.{_≡_}
 use mathlib.Core.Logic.{_⊎_}
 use mathlib.Core.List.{List}
-use Prim.Native.Nat.{ℕ, _+_, _*_, _%_, _^_, _≤_, _<_}
+use Prim.Native.Nat.{ℕ, _+_, _*_, _^_, _≤_, _<_}
 use lib.ListN.{length, set}
 use Rattle.maths.specs.Vector.{at, AllBelow}
 use Rattle.maths.specs.Congruence.{Mod}
 use Rattle.maths.specs.Transform.{transformAt}
 use Rattle.maths.specs.Butterfly.{Butterfly}
 use Rattle.montgomery.specs.Scaled.{unscale, Modulus}
+use Rattle.ntt_butterflies.specs.Lazy.{Lift}
 
 -- to with four numbers written at place, place + apart, place + 2 · apart and place + 3 · apart
 unfoldable pub writtenApart : List ℕ → ℕ → ℕ → ℕ → ℕ → ℕ → ℕ → List ℕ
 writtenApart to place apart z₀ z₁ z₂ z₃ = set (set (set (set to place z₀) (place + apart) z₁) (place + 2 * apart) z₂) (place + 3 * apart) z₃
 
--- 256 numbers below lift, a multiple of q that allows numbers below 2 · q and of which four times fits 32 bits, and 8 scaled powers
+-- 256 numbers below lift, and 8 scaled powers
 pub record StepReady (q k lift : ℕ) (roots from to : List ℕ) : Type 0 where
-  pub modulus : Modulus q k
-  pub multiple : lift % q ≡ 0
-  pub two-q : 2 * q ≤ lift
-  pub room : 4 * lift < 2 ^ 32
+  pub lifted : Lift q k lift
   pub roots-size : length roots ≡ 8
   pub roots-below : AllBelow q 8 roots
   pub from-size : length from ≡ 256

@@ -9,12 +9,12 @@ use Rattle.ntt_butterflies.proofs.twiddled_butterfly.Tie as tie
 turned-difference-requires-3 : tie.Need-turned-difference-requires-3
 turned-difference-requires-3 c κs =
     let pre = c .before .before .pre in
-    (pre .0 .modulus, pre .3, twice _ _ (pre .0 .multiple), omega arith, omega arith, omega arith)
+    (pre .0 .lifted .modulus, pre .3, twice _ _ (pre .0 .lifted .multiple), omega arith, omega arith, omega arith)
 
 turned-difference-requires-4 : tie.Need-turned-difference-requires-4
 turned-difference-requires-4 c κs =
     let pre = c .before .before .before .pre in
-    (pre .0 .modulus, pre .3, twice _ _ (pre .0 .multiple), omega arith, omega arith, omega arith)
+    (pre .0 .lifted .modulus, pre .3, twice _ _ (pre .0 .lifted .multiple), omega arith, omega arith, omega arith)
 
 returns : tie.Need-returns
 returns c =
