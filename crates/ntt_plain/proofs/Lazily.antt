@@ -18,9 +18,9 @@ use Rattle.calls.proofs.Written.{Written, written-more}
 use Rattle.montgomery.specs.Scaled.{unscale, Odd}
 use Rattle.montgomery.proofs.Laws.{back, unscale-back, unscale-cong, unscale-product, unscale-remainder, unscale-power}
 use Rattle.montgomery.proofs.Laws.{four-scales, unscale-fourfold}
-use Rattle.ntt_plain.specs.Plain.{stridedSum, columns, twisted, rows, scaled, Lazily}
+use Rattle.ntt_plain.specs.Plain.{stridedSum, columns, twisted, rows, Lazily}
 use Rattle.ntt_plain.proofs.Steps.{columns-length, twisted-length, rows-length, scaled-length, columns-at, twisted-at, rows-at, scaled-at}
-use Rattle.ntt_plain.proofs.Steps.{RootPowers, rows-sent, columns-recovered}
+use Rattle.ntt_plain.proofs.Steps.{scaled, RootPowers, rows-sent, columns-recovered}
 
 -- what is written at place j: below 2 · q, and congruent to the exact number there divided by 2^32
 pub record Lazy (q : ℕ) (exact : List ℕ) (j r : ℕ) : Type 0 where

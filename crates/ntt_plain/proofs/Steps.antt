@@ -8,7 +8,7 @@ use native.Mathlib.Nat.{mod-eq-of-lt, le-of-lt, lt-of-le-of-lt, mul-le-mul-left,
 use native.Mathlib.Omega.{arith}
 use lib.Arith.{digits-lt, digits-div, digits-mod}
 use lib.ListN.{length}
-use Rattle.maths.specs.Vector.{at, AllBelow}
+use Rattle.maths.specs.Vector.{at, tabulate, AllBelow}
 use Rattle.maths.specs.Congruence.{Mod}
 use Rattle.maths.specs.Root.{powerTable}
 use Rattle.maths.specs.Transform as maths
@@ -20,7 +20,11 @@ use Rattle.maths.proofs.PowerTable.{powerTable-at}
 use Rattle.maths.proofs.Split.{power-round}
 use Rattle.maths.proofs.Convolution.{transform-mod}
 use Rattle.maths.proofs.Transform.{send-length, send-columns-rows, recover-length, recover-rows-columns}
-use Rattle.ntt_plain.specs.Plain.{stridedSum, Summable, columns, twisted, rows, scaled, Plain}
+use Rattle.ntt_plain.specs.Plain.{stridedSum, Summable, columns, twisted, rows, Plain}
+
+-- each number times e
+unfoldable pub scaled : ℕ → ℕ → List ℕ → List ℕ
+scaled q e x = tabulate (length x) (λ i. e * at x i % q)
 
 pub columns-length : (q ρ m places : ℕ) (powers x : List ℕ) → length (columns q ρ m places powers x) ≡ places
 unfolding columns

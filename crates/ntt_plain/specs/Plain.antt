@@ -39,10 +39,6 @@ twisted q ρ powers x = tabulate (length x) (λ i. at x i * at powers (i / ρ * 
 unfoldable pub rows : ℕ → ℕ → ℕ → List ℕ → List ℕ → List ℕ
 rows q ρ δ powers x = tabulate (length x) (λ i. stridedSum x (i / ρ * ρ) 1 ρ powers (i % ρ * δ) % q)
 
--- each number times e
-unfoldable pub scaled : ℕ → ℕ → List ℕ → List ℕ
-scaled q e x = tabulate (length x) (λ i. e * at x i % q)
-
 -- numbers below 2 · q in rows of ρ, at most as many as there are powers of the root
 pub record Plain (q ρ : ℕ) (powers x : List ℕ) : Type 0 where
   pub modulus : Odd q
