@@ -17,15 +17,13 @@ taken a c d p q = ap (λ (e : List ℕ). state (λ x y. lane a x y ⊕ at e x)) 
 
 returns : tie.Need-returns
 returns c =
-    (λ i.
-    c .before .before .before .before .before .before .before .before .xor-row .ensures i
-    ∷ c .before .before .before .before .before .before .xor-row2 .ensures i
-    ∷ c .before .before .before .before .xor-row3 .ensures i
-    ∷ c .before .before .xor-row4 .ensures i
-    ∷ c .xor-row5 .ensures i
-    ∷ [])
-    ∙ taken _ _ _ (c .before .before .before .before .before .before .before .before .before .before .before .parity .ensures)
-    (c .before .before .before .before .before .before .before .before .before .before .mix-row .ensures)
+    let fourth = c .before .before in
+    let third = fourth .before .before in
+    let second = third .before .before in
+    let first = second .before .before in
+    let mixed = first .before .before in
+    (λ i. first .xor-row .ensures i ∷ second .xor-row2 .ensures i ∷ third .xor-row3 .ensures i ∷ fourth .xor-row4 .ensures i ∷ c .xor-row5 .ensures i ∷ [])
+    ∙ taken _ _ _ (mixed .before .parity .ensures) (mixed .mix-row .ensures)
 
 pub theta-spec : {M : Type 1} → statement M
 theta-spec =

@@ -12,21 +12,24 @@ use borrow.Author.Needs.{needs}
 use Rattle.ntt_by_row.proofs.forward_numbers.Statement.{statement}
 use Rattle.ntt_by_row.proofs.forward_numbers.Tie as tie
 
+-- where the function begins, seen from after the copying
+abbrev start-of : tie.After-copy-in → tie.Start
+start-of c = c .before .before .before .before .before .before
+
 -- the numbers that were copied
-buffer-front : (c : tie.After-copy-in)
-    → let start = c .before .before .before .before .before .before in take (start .args .n - 0) (c .copy-in .last .0) ≡ take (start .args .n)
-    (start .args .x .now)
+buffer-front : (c : tie.After-copy-in) → let args = start-of c .args in take (args .n - 0) (c .copy-in .last .0) ≡ take (args .n) (args .x .now)
 buffer-front c =
-    let start = c .before .before .before .before .before .before in
+    let start = start-of c in
     let whole : start .args .n - 0 ≡ start .args .n = omega arith in
     let size : length (take (start .args .n) (start .args .x .now)) ≡ start .args .n = length-take-le (start .args .n) (start .args .x .now) (start .pre .3) in
     rw whole (copied _ _ (start .args .n) (rw whole at (c .copy-in .ensures)) size (omega (arith, start .pre)))
 
 forward-with-buffer-requires : tie.Need-forward-with-buffer-requires
 forward-with-buffer-requires c κs =
-    let start = c .before .before .before .before .before .before .before .before .before .before .before in
+    let filled = c .before .before .before .before .before in
+    let start = start-of filled in
     let size = length-take-le (start .args .n) (start .args .x .now) (start .pre .3) in
-    rw (buffer-front (c .before .before .before .before .before)) (
+    rw (buffer-front filled) (
       start .pre .0,
       size ∙ sym (mul-one _),
       omega (arith, start .pre .1, start .pre .3),

@@ -11,18 +11,22 @@ use borrow.Author.Needs.{needs}
 use Rattle.ntt_by_row.proofs.inverse_numbers.Statement.{statement}
 use Rattle.ntt_by_row.proofs.inverse_numbers.Tie as tie
 
+-- where the function begins, seen from after the copying
+abbrev start-of : tie.After-copy-in → tie.Start
+start-of c = c .before .before .before .before .before
+
 -- the numbers that were copied
-buffer-front : (c : tie.After-copy-in)
-    → let start = c .before .before .before .before .before in take (length (start .args .x .now) - 0) (c .copy-in .last .0) ≡ start .args .x .now
+buffer-front : (c : tie.After-copy-in) → let args = start-of c .args in take (length (args .x .now) - 0) (c .copy-in .last .0) ≡ args .x .now
 buffer-front c =
-    let start = c .before .before .before .before .before in
+    let start = start-of c in
     let whole : length (start .args .x .now) - 0 ≡ length (start .args .x .now) = omega arith in
     rw whole (copied _ _ (length (start .args .x .now)) (c .copy-in .ensures) refl (omega (arith, start .pre)))
 
 inverse-with-buffer-requires : tie.Need-inverse-with-buffer-requires
 inverse-with-buffer-requires c κs =
-    let start = c .before .before .before .before .before .before .before .before .before .before in
-    rw (buffer-front (c .before .before .before .before .before)) (
+    let filled = c .before .before .before .before .before in
+    let start = start-of filled in
+    rw (buffer-front filled) (
       start .pre .0,
       sym (mul-one _),
       sym (start .pre .1),
@@ -34,7 +38,7 @@ inverse-with-buffer-requires c κs =
 returns : tie.Need-returns
 returns c w table whole =
     let filled = c .before .before .before .before .before .before .before .before .before in
-    let start = filled .before .before .before .before .before in
+    let start = start-of filled in
     let n = length (start .args .x .now) in
     c .before .before .before .inverse-with-buffer .ensures w n table whole (sym (mul-one n)) (le-refl n)
     ∙ rw (buffer-front filled, mul-one n, start .pre .1)
