@@ -8,7 +8,7 @@ use Rattle.cpa_encrypt.proofs.second.numbers_with_buffers.Tie as tie
 
 -- points of the function, each from a later one: the entry, the rows of the sums
 abbrev start : tie.After-sum-rows → tie.Start
-start c = c .before .before .before .before .before .before .before .before .before .before .before
+start c = let lent = c .before .before .before .before .before in lent .before .before .before .before .before .before
 
 abbrev summed : tie.After-walk → tie.After-sum-rows
 summed c = c .before .before .before .before .before .before .before .before .before
