@@ -102,20 +102,27 @@ fn rows(input: &[u8]) -> Result<(Set, Vec<Row>), Refusal> {
     }
 }
 
+/// The largest size that a noise of the set can have: η times the sum of B/2 over every position, and all low bits of a number dropped.
+fn ceiling(s: &Set) -> u64 {
+    let sizes: u64 = (0..s.multipliers()).map(|position| multiplier_bound(s, position) as u64).sum();
+    s.eta as u64 * sizes + (1 << s.dropped_bits) - 1
+}
+
 fn text(s: &Set, mut rows: Vec<Row>) -> String {
     rows.sort_by_key(|row| (-row.noise.abs(), row.place));
     let mut sheet = String::from("place noise sent read\n");
     for row in rows.iter().take(10) {
         writeln!(sheet, "{} {} {} {}", row.place, row.noise, row.sent, row.read).unwrap();
     }
-    let ceiling = s.multipliers() as u64 * multiplier_bound(s, s.multipliers()) as u64 * s.eta as u64;
-    writeln!(sheet, "ceiling {ceiling} half {}", s.half()).unwrap();
+    writeln!(sheet, "ceiling {} half {}", ceiling(s), s.half()).unwrap();
     sheet
 }
 
 #[cfg(test)]
 mod tests {
-    use super::sheet;
+    use super::{ceiling, noise, sheet};
+    use crate::parameters::set;
+    use crate::scheme::{key, sealed_numbers};
 
     #[test]
     fn the_bench_sheet() {
@@ -130,6 +137,32 @@ mod tests {
         assert_eq!(sheet(&[0; 13]), "refused 2 0\n");
         assert_eq!(sheet(&[0, 3, 17, 1, 2, 3, 4, 1, 0, 255, 1, 254, 1, 0]), "refused 3 2\n");
         assert_eq!(sheet(&[0, 3, 5, 1, 2, 3, 4, 1, 0, 255, 0, 254, 1, 0]), "refused 3 10\n");
+    }
+
+    #[test]
+    fn ceilings() {
+        let known = [4, 1860607, 792063, 851455, 2766847, 7548927, 10747903];
+        (0..7).for_each(|number| assert_eq!(ceiling(&set(number).unwrap()), known[number]));
+    }
+
+    /// The noise of two sealings of each set stays within the ceiling.
+    #[test]
+    fn noise_within_the_ceiling() {
+        for s in (1..13).map(|number| set(number).unwrap()) {
+            for seed in [[1; 32], [2; 32]] {
+                let sizes = noise(&s, &seed, &[3; 32], &[0x5a; 32]).unwrap().into_iter().map(i64::unsigned_abs);
+                assert!(sizes.max().unwrap() <= ceiling(&s));
+            }
+        }
+    }
+
+    /// Packing drops as much as the ceiling allows: a place of one of these sealings of set 2 has all its low bits 1.
+    #[test]
+    fn all_low_bits_dropped() {
+        let s = set(2).unwrap();
+        let public_key = key(&s, &[1; 32]).unwrap().0;
+        let numbers = |seed| sealed_numbers(&s, &public_key, &[0x5a; 32], &[seed; 32]).unwrap().1;
+        assert!((0..8).flat_map(numbers).any(|number| number % (1 << s.dropped_bits) == (1 << s.dropped_bits) - 1));
     }
 
     /// The sheets of an independent model: an input in hexadecimal, then the sheet, a blank line between two.

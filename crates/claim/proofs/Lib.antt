@@ -5,3 +5,4 @@ pub mod Numbers
 pub mod Draws
 pub mod Seeds
 pub mod Claim
+pub mod Ceiling

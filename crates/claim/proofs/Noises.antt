@@ -23,7 +23,7 @@ use Rattle.claim.specs.Reversed.{reversedVectors}
 
 module _ (p : Parameters) (r e : List ℤ) (size : length r ≡ multiplierCount p) where
   -- vector i has k + 1 numbers
-  vector-size : (i : ℕ) → i < p .t → length (vector (p .k + 1) r i) ≡ p .k + 1
+  pub vector-size : (i : ℕ) → i < p .t → length (vector (p .k + 1) r i) ≡ p .k + 1
   unfolding multiplierCount
   vector-size i h = region-length r ((p .k + 1) * i) (p .k + 1) (omega (arith, vector-fits (p .k + 1) (p .t) i h, size))
 

@@ -94,32 +94,38 @@ module _ (set : ℕ) (within : IsSet set) (a s : List ℕ) (e r : List ℤ) (m :
       ∙ two-slices (p .q) a b _ ∙ passes-below (p .q) 0 a _ (given .public) ∙ passes-below (p .q) (length a) b _ (key-below p a s e some)
       ∙ passes (isMultiplier p) (length a + length b) r (pos 0) _ (given .multipliers) ∙ passes-below 2 (length a + length b + length r) m _ (given .message)
 
-  -- what an accepted key tells of a and of the secret
-  key-told : (n : ℕ) → keyAnswer set a s e n ≡ accepted
-      → (length a ≡ setOf set .t * setOf set .n) × (length s ≡ setOf set .n + setOf set .d + setOf set .k - 1) × Below (setOf set .q) s
-  unfolding keyAnswer
-  key-told n taken =
-      let one = refuse-accepted (noSet set) 1 0 _ taken in
-      let two = refuse-accepted (not (allOf (keyShape (setOf set) (length a) (length s) (length e) n))) 2 0 _ (one .1) in
-      let each = allOf-each _ (not-false _ (two .0)) in
-      (eqb-true _ _ (each .0), eqb-true _ _ (each .1 .0), accepted-two (setOf set .q) a s _ (two .1) .1)
-
-  -- what an accepted sealing tells of the multipliers and the message
-  sealing-told : (b : List ℕ) (c1 c2 : ℕ) → sealingAnswer set a b r m c1 c2 ≡ accepted
-      → (length r ≡ multiplierCount (setOf set)) × (length m ≡ setOf set .d) × Below 2 m
-  unfolding sealingAnswer
-  sealing-told b c1 c2 taken =
-      let one = refuse-accepted (noSet set) 1 0 _ taken in
-      let two = refuse-accepted (not (allOf (sealingShape (setOf set) (length a) (length b) (length r) (length m) c1 c2))) 2 0 _ (one .1) in
-      let three = accepted-two (setOf set .q) a b _ (two .1) in
-      let four = refuseFirst-accepted (isMultiplier (setOf set)) 0 (length a + length b) r _ (three .2) in
-      let five = accepted-one 2 (length a + length b + length r) m _ (four .1) in
-      let each = allOf-each _ (not-false _ (two .0)) in
-      (eqb-true _ _ (each .1 .1 .0), eqb-true _ _ (each .1 .1 .1 .0), five .0)
-
   module _ (keyed : keyAnswer set a s e (errorCount (setOf set)) ≡ accepted)
       (sealed : sealingAnswer set a (keyOf set a s e) r m (setOf set .n + setOf set .k) (setOf set .d) ≡ accepted)
     where
+      -- they tell that the numbers have the set's lengths and are in range
+      pub inputs-told : Inputs (setOf set) a s e r m
+      unfolding keyAnswer sealingAnswer
+      inputs-told =
+          let p = setOf set in
+          let b = keyOf set a s e in
+          let key-set = refuse-accepted (noSet set) 1 0 _ keyed in
+          let key-shape = refuse-accepted (not (allOf (keyShape p (length a) (length s) (length e) (errorCount p)))) 2 0 _ (key-set .1) in
+          let key-lengths = allOf-each _ (not-false _ (key-shape .0)) in
+          let key-residues = accepted-two (p .q) a s _ (key-shape .1) in
+          let small-errors = refuseFirst-accepted (isError (p .eta)) 0 (length a + length s) e _ (key-residues .2) in
+          let sealing-set = refuse-accepted (noSet set) 1 0 _ sealed in
+          let sealing-shape = refuse-accepted (not (allOf (sealingShape p (length a) (length b) (length r) (length m) (p .n + p .k) (p .d)))) 2 0 _
+          (sealing-set .1) in
+          let sealing-lengths = allOf-each _ (not-false _ (sealing-shape .0)) in
+          let small-multipliers = refuseFirst-accepted (isMultiplier p) 0 (length a + length b) r _ (accepted-two (p .q) a b _ (sealing-shape .1) .2) in
+          record {
+            public-length = eqb-true _ _ (key-lengths .0);
+            public = key-residues .0;
+            secret-length = eqb-true _ _ (key-lengths .1 .0);
+            secret = key-residues .1;
+            errors-length = eqb-true _ _ (key-lengths .1 .1 .0);
+            errors = passing-all (isError (p .eta)) 0 e (pos 0) .0 (small-errors .0);
+            multipliers-length = eqb-true _ _ (sealing-lengths .1 .1 .0);
+            multipliers = λ i h. rw zero-add at (passing-all (isMultiplier p) 0 r (pos 0) .0 (small-multipliers .0) i h);
+            message-length = eqb-true _ _ (sealing-lengths .1 .1 .1 .0);
+            message = accepted-one 2 (length a + length b + length r) m _ (small-multipliers .1) .0;
+          }
+
       -- reading accepts what sealing gives
       reading-takes : readingAnswer set (firstOf set a r) (secondOf set a s e r m) s (setOf set .d) ≡ accepted
       reading-takes =
@@ -127,14 +133,14 @@ module _ (set : ℕ) (within : IsSet set) (a s : List ℕ) (e r : List ℤ) (m :
           let b = keyOf set a s e in
           let c1 = firstOf set a r in
           let c2 = secondOf set a s e r m in
-          let told = key-told _ keyed in
+          let told = inputs-told in
           reading-numbers set p c1 c2 s (p .d) refl (omega arith)
           (each-allOf _ (
             eq-eqb _ _ (firstPart-length p a r),
-            (eq-eqb _ _ (secondPart-length p b r m), (eq-eqb _ _ (told .1), (eq-eqb (p .d) (p .d) refl, tt))),
+            (eq-eqb _ _ (secondPart-length p b r m), (eq-eqb _ _ (told .secret-length), (eq-eqb (p .d) (p .d) refl, tt))),
           ))
           ∙ three-slices (p .q) c1 c2 s _ ∙ two-slices (p .q) c1 c2 _ ∙ passes-below (p .q) 0 c1 _ (firstPart-below p a r some)
-          ∙ passes-below (p .q) (length c1) c2 _ (secondPart-below p b r m some) ∙ passes-below (p .q) (length c1 + length c2) s _ (told .2)
+          ∙ passes-below (p .q) (length c1) c2 _ (secondPart-below p b r m some) ∙ passes-below (p .q) (length c1 + length c2) s _ (told .secret)
 
       -- each bit is read by its noise
       each-bit : (j : ℕ) → j < setOf set .d
@@ -146,11 +152,11 @@ module _ (set : ℕ) (within : IsSet set) (a s : List ℕ) (e r : List ℤ) (m :
           let N = numbersNoise p e r j in
           let w = opened p (firstOf set a r) (secondOf set a s e r m) s j in
           let odd = rules set within .odd in
-          let told = sealing-told _ _ _ sealed in
-          let bit : at m j ≤ 1 = omega (arith, told .1, told .2 j (omega (arith, told .1))) in
+          let told = inputs-told in
+          let bit : at m j ≤ 1 = omega (arith, told .message-length, told .message j (omega (arith, told .message-length))) in
           let exact : w ≡ (residue (p .q) N + half * at m j) % p .q =
           sym (mod-eq-of-lt (opened-below p (firstOf set a r) (secondOf set a s e r m) s j some))
-          ∙ opened-noisy p (rules set within) a s e (key-told _ keyed .0) r m (told .0) j h .same in
+          ∙ opened-noisy p (rules set within) a s e (told .public-length) r m (told .multipliers-length) j h .same in
           rw (reading-at set p (firstOf set a r) (secondOf set a s e r m) s j h) (elim (decLt 0 set) [
             | yes above ↦ rw (roundedBit-centred set p w (λ z. omega arith))
                 (centredBit-claim half (p .q) (at m j) w N odd bit exact (half / 2) (byteRules set above within .even-half))
@@ -167,5 +173,5 @@ module _ (set : ℕ) (within : IsSet set) (a s : List ℕ) (e r : List ℤ) (m :
             bits = each-bit;
             whole = λ small.
                 equal-by-place (setOf set .d) _ _ (reading-length set (setOf set) (firstOf set a r) (secondOf set a s e r m) s)
-                (sealing-told _ _ _ sealed .1) (λ j h. each-bit j h .reads (small j h));
+                (inputs-told .message-length) (λ j h. each-bit j h .reads (small j h));
           }

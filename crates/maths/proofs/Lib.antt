@@ -14,5 +14,6 @@ pub mod Radix
 pub mod Fourfold
 pub mod Transform
 pub mod Integer
+pub mod Size
 pub mod Reverse
 pub mod Rounding

@@ -23,6 +23,12 @@ unfolding sum
 sum-cong zero f g e = refl
 sum-cong (suc n) f g e = omega (arith, sum-cong n f g (λ i h. e i (omega arith)), e n (omega arith))
 
+-- terms that are at most as large below n give a sum that is at most as large
+pub sum-mono : (n : ℕ) (f g : ℕ → ℕ) → ((i : ℕ) → i < n → f i ≤ g i) → sum n f ≤ sum n g
+unfolding sum
+sum-mono zero f g e = omega arith
+sum-mono (suc n) f g e = omega (arith, sum-mono n f g (λ i h. e i (omega arith)), e n (omega arith))
+
 -- the sum of zeros
 pub sum-zero : (n : ℕ) (f : ℕ → ℕ) → ((i : ℕ) → i < n → f i ≡ 0) → sum n f ≡ 0
 unfolding sum

@@ -48,7 +48,7 @@ unpack-dropped width cmp count xs size kept digit =
     ∙ unpackDropped-packDropping width cmp (packedBytes count (width - cmp)) xs kept digit (rw size (packed-fits count (width - cmp)))
 
 -- numbers that are below b at their places are so everywhere
-below-everywhere : (n b : ℕ) (xs : List ℕ) → 0 < b → length xs ≡ n → ((j : ℕ) → j < n → at xs j < b) → (j : ℕ) → at xs j < b
+pub below-everywhere : (n b : ℕ) (xs : List ℕ) → 0 < b → length xs ≡ n → ((j : ℕ) → j < n → at xs j < b) → (j : ℕ) → at xs j < b
 below-everywhere n b xs some size below j =
     elim (decLt j n) [
       | yes inside ↦ below j inside
@@ -68,6 +68,13 @@ module _ {p : Parameters} (c : Conditions p) where
   -- residues have width bits
   residues-digit : (xs : List ℕ) → ((j : ℕ) → at xs j < p .q) → Digit (p .width) xs
   residues-digit xs below j = omega (arith, below j, c .rules .width-enough)
+
+  -- d residues packed and unpacked as c2 is: each without its low cmp bits
+  pub second-at : (xs : List ℕ) → length xs ≡ p .d → ((j : ℕ) → at xs j < p .q) → (j : ℕ) → j < p .d
+      → at (unpackDropped (p .width) (p .cmp) (p .d) (packDropping (p .width) (p .cmp) (secondBytes p) xs)) j ≡ chop (p .cmp) (at xs j)
+  unfolding secondBytes
+  second-at xs size below j h =
+      rw (unpack-dropped (p .width) (p .cmp) (p .d) xs size (omega (arith, c .rules .kept)) (residues-digit xs below)) (map-at (chop (p .cmp)) xs j (rw size h))
 
   -- a vector as it is stored holds residues
   send-below : (i w : ℕ) (xs : List ℕ) (j : ℕ) → at (send (p .q) (p .row) (rowCount p i) w xs) j < p .q
@@ -177,16 +184,17 @@ module _ {p : Parameters} (c : Conditions p) where
         below-everywhere (p .d) (p .q) (encryptedNumbers p pk message seedr) (positive c) (encryptedNumbers-length p pk message seedr)
         (λ j h. rw (encryptedNumbers-at p pk message seedr j h) (mod-lt _ (positive c)))
 
-    -- c2 from a ciphertext: each number of c2' without what packing dropped
-    cipherSecond-back : cipherSecond p (ciphertext p pk message seedr) ≡ map (chop (p .cmp)) (encryptedNumbers p pk message seedr)
-    unfolding cipherSecond ciphertext firstBytes secondBytes
-    cipherSecond-back =
+    -- c2 from a ciphertext: c2' packed and unpacked
+    pub cipherSecond-unpacked : cipherSecond p (ciphertext p pk message seedr)
+        ≡ unpackDropped (p .width) (p .cmp) (p .d) (packDropping (p .width) (p .cmp) (secondBytes p) (encryptedNumbers p pk message seedr))
+    unfolding cipherSecond ciphertext firstBytes
+    cipherSecond-unpacked =
         ap (unpackDropped (p .width) (p .cmp) (p .d))
         (drop-at (pack (p .width) (packedBytes (p .d2) (p .width)) _) _ (packedBytes (p .d2) (p .width)) (pack-length (p .width) _ _))
-        ∙ unpack-dropped (p .width) (p .cmp) (p .d) (encryptedNumbers p pk message seedr) (encryptedNumbers-length p pk message seedr)
-        (omega (arith, c .rules .kept)) (residues-digit (encryptedNumbers p pk message seedr) encryptedNumbers-below)
 
     -- number j of c2
     pub cipherSecond-at : (j : ℕ) → j < p .d
         → at (cipherSecond p (ciphertext p pk message seedr)) j ≡ chop (p .cmp) (at (encryptedNumbers p pk message seedr) j)
-    cipherSecond-at j h = rw cipherSecond-back (map-at (chop (p .cmp)) (encryptedNumbers p pk message seedr) j (rw encryptedNumbers-length h))
+    cipherSecond-at j h =
+        rw cipherSecond-unpacked
+        (second-at (encryptedNumbers p pk message seedr) (encryptedNumbers-length p pk message seedr) encryptedNumbers-below j h)

@@ -2,6 +2,7 @@ pub mod Conditions
 pub mod Places
 pub mod Bytes
 pub mod Noise
+pub mod Sizes
 pub mod Claim
 pub mod Exchange
 pub mod Answers

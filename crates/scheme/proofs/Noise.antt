@@ -6,7 +6,7 @@ use Prim.Native.Nat.{ℕ, _+_, _-_, _*_, _%_, _^_, _≤_, _<_}
 use native.Mathlib.Nat.{mod-lt}
 use native.Mathlib.Omega.{arith}
 use lib.IntN.{ℤ, pos, negℤ}
-use lib.ListN.{getD}
+use lib.ListN.{length, getD}
 use Rattle.maths.specs.Vector.{at}
 use Rattle.maths.specs.Sum.{sum}
 use Rattle.maths.specs.Congruence.{Mod}
@@ -24,11 +24,12 @@ use Rattle.ntt_products.specs.Stored.{recovered}
 use Rattle.scheme.specs.Encryption.{secretSeed, publicSeed, secret, publicPolynomial, errors, residueVector, publicKey, keyPolynomial, multiplierVector}
 use Rattle.scheme.specs.Encryption.{firstNumbers, encryptedNumbers, ciphertext, cipherFirst, cipherSecond, decryptedNumber}
 use Rattle.scheme.specs.Noise.{productNoise, droppedNoise, noise}
+use Rattle.scheme.specs.Dropped.{packingNoise}
 use Rattle.scheme.specs.Conditions.{Conditions}
 use Rattle.scheme.specs.Bits.{messageBit}
 use Rattle.scheme.proofs.Conditions.{positive}
 use Rattle.scheme.proofs.Places.{residueVector-at, multiplierVector-past, publicPolynomial-past, publicVector-at, firstNumbers-at, encryptedNumbers-at}
-use Rattle.scheme.proofs.Bytes.{keySeed-back, keyPolynomial-back, firstNumbers-back, encryptedNumbers-below, cipherSecond-at}
+use Rattle.scheme.proofs.Bytes.{keySeed-back, keyPolynomial-back, firstNumbers-back, encryptedNumbers-below, second-at}
 
 -- the residue of a correlation of whole numbers
 correlationℤ-residue : (q n : ℕ) (x y : List ℤ) (j : ℕ) → 0 < q
@@ -81,6 +82,14 @@ dropped-noise p unpacked before j y odd small below parts =
     let lost : at unpacked j + (p .q - at before j) ≡ p .q - y = omega arith in
     let same : residue (p .q) (negℤ (pos y)) ≡ (p .q - y) % p .q = residue-negℤ (p .q) (pos y) (omega arith) ∙ rw (residue-low (p .q) y (omega arith)) in
     rw (lost, ← same) (centre-residue (halfModulus p) (p .q) (negℤ (pos y)) odd (rw natAbs-negℤ small))
+
+-- what packing drops of d residues at a place is minus their low cmp bits
+pub packingNoise-is : {p : Parameters} → Conditions p → (c2 : List ℕ) → length c2 ≡ p .d → ((j : ℕ) → at c2 j < p .q) → (j : ℕ) → j < p .d
+    → packingNoise p c2 j ≡ negℤ (pos (at c2 j % 2 ^ p .cmp))
+unfolding packingNoise
+packingNoise-is {p} c c2 size below j inside =
+    dropped-noise p _ c2 j (at c2 j % 2 ^ p .cmp) (c .rules .odd) (omega (arith, dropped-below (p .cmp) (at c2 j), c .rules .dropped)) (below j)
+    (rw (second-at c c2 size below j inside) (chop-dropped (p .cmp) (at c2 j)))
 
 -- what is opened, and the correlation of c1' with s, make the number of c2
 decryptedNumber-mod : (p : Parameters) (seedsk ct : List ℕ) (j : ℕ) → 0 < p .q
@@ -142,13 +151,3 @@ module _ {p : Parameters} (c : Conditions p) (seed message seedr : List ℕ) (j 
       (droppedNoise-residue p (cipherSecond p ct) (encryptedNumbers p pk message seedr) j (c .rules .odd)
       (omega (arith, encryptedNumbers-below c pk message seedr j)))
       sealed-sums noise-parts
-
-  -- the part of the bits dropped is minus those bits, which are the low cmp bits of c2'
-  pub droppedNoise-bits : 2 ^ p .cmp ≤ halfModulus p
-      → droppedNoise p (cipherSecond p (ciphertext p (publicKey p seed) message seedr)) (encryptedNumbers p (publicKey p seed) message seedr) j ≡ negℤ
-      (pos (at (encryptedNumbers p (publicKey p seed) message seedr) j % 2 ^ p .cmp))
-  droppedNoise-bits few =
-      let pk : List ℕ = publicKey p seed in
-      let x : ℕ = at (encryptedNumbers p pk message seedr) j in
-      dropped-noise p _ _ j (x % 2 ^ p .cmp) (c .rules .odd) (omega (arith, dropped-below (p .cmp) x)) (encryptedNumbers-below c pk message seedr j)
-      (rw (cipherSecond-at c pk message seedr j inside) (chop-dropped (p .cmp) x))

@@ -25,7 +25,7 @@ taken-numbers (ended xs run) e = let z : _≡_ {A = ℕ} 0 1 = cc in absurd (ome
 taken-numbers (exhausted i) e = let z : _≡_ {A = ℕ} 0 1 = cc in absurd (omega arith)
 
 -- both tests hold
-both-true : (a b : Bool) → (a && b) ≡ true → (a ≡ true) × (b ≡ true)
+pub both-true : (a b : Bool) → (a && b) ≡ true → (a ≡ true) × (b ≡ true)
 both-true true b e = (refl, e)
 both-true false b e = let z : _≡_ {A = ℕ} 0 1 = cc in absurd (omega arith)
 

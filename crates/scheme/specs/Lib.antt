@@ -1,5 +1,6 @@
 pub mod Encryption
 pub mod Noise
+pub mod Dropped
 pub mod Conditions
 pub mod Bits
 pub mod Exchange

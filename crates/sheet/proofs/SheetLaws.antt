@@ -1,4 +1,4 @@
--- Laws of the sheet: what text is printed, and demand 3 on it.
+-- Laws of the sheet: what text is printed, and demand 3 and the ceiling on it.
 -- Assumes nothing.
 use mathlib.Core.Path.{_≡_, refl, sym, ap, _∙_}
 use mathlib.Core.Bool.{true, false, cond}
@@ -14,14 +14,15 @@ use Rattle.sets.specs.Table.{setOf}
 use Rattle.sets.specs.Derived.{halfModulus}
 use Rattle.packing.specs.Digits.{Digit}
 use Rattle.claim.specs.Claim.{Demand3}
-use Rattle.sheet_text.specs.Ceiling.{ceiling}
+use Rattle.claim.specs.Ceiling.{WithinCeiling}
+use Rattle.ceiling.specs.Ceiling.{ceiling}
 use Rattle.sheet_text.specs.Text.{sheetText, refusedText}
-use Rattle.sheet_parts.specs.Checks.{setByte, inputAnswer}
+use Rattle.sheet_parts.specs.Checks.{hasSheet, inputBytes, setByte, inputAnswer}
 use Rattle.sheet_parts.specs.Printed.{Printed}
 use Rattle.sheet_parts.proofs.Laws.{input-passed, input-is, input-refused}
 use Rattle.sheet_rows.specs.Input.{handedIn, rowsAnswer, sheetWork}
 use Rattle.sheet_rows.specs.Rows.{InputRows}
-use Rattle.sheet_rows.proofs.InputClaim.{rows-claim}
+use Rattle.sheet_rows.proofs.InputClaim.{rows-claim, rows-within}
 use Rattle.sheet.specs.Sheet.{sheetAnswer, answerText, rowsText, sheetOf, sheetFits}
 
 -- the text of rows that are filled
@@ -47,11 +48,20 @@ pub unchecked-text : (input : List ℕ) {number place : ℕ} → inputAnswer inp
 unfolding sheetOf sheetAnswer
 unchecked-text input e = refused-text (rowsText (setByte input) input) (input-refused input (rowsAnswer (setByte input) input) e)
 
--- demand 3 on an accepted sheet
-pub sheet-claim : (input : List ℕ) → Digit 8 input → sheetAnswer input ≡ accepted → Demand3 (setByte input) (handedIn (setByte input) input)
-unfolding sheetAnswer
-sheet-claim input bytes e =
-    let is = input-is input (rowsAnswer (setByte input) input) e in rows-claim (setByte input) input bytes (is .1) (is .2) (is .3)
+module _ (input : List ℕ) (bytes : Digit 8 input) (taken : sheetAnswer input ≡ accepted) where
+  -- the checks that it passed
+  passed : (1 ≤ length input) × (hasSheet (setByte input) ≡ true) × (length input ≡ inputBytes (setByte input))
+      × (rowsAnswer (setByte input) input ≡ accepted)
+  unfolding sheetAnswer
+  passed = input-is input (rowsAnswer (setByte input) input) taken
+
+  -- demand 3 on an accepted sheet
+  sheet-claim : Demand3 (setByte input) (handedIn (setByte input) input)
+  sheet-claim = rows-claim (setByte input) input bytes (passed .1) (passed .2) (passed .3)
+
+  -- its noise is within the ceiling
+  sheet-within : WithinCeiling (setByte input) (handedIn (setByte input) input)
+  sheet-within = rows-within (setByte input) input bytes (passed .1) (passed .2) (passed .3)
 
 module _ (text work : ℕ) where
   -- whether the slices lent fit
@@ -80,13 +90,15 @@ module _ (input text work : List ℕ) (bytes : Digit 8 input) where
       × ((count ≤ 1024)
       × ((text₁ ≡ cond (sheetFits (length text) (length work)) (over text 0 (sheetOf input)) text)
       × ((work₁ ≡ cond (sheetFits (length text) (length work)) (replicate (length work) 0) work)
-      × (sheetAnswer input ≡ accepted → Demand3 (setByte input) (handedIn (setByte input) input)))))
+      × ((sheetAnswer input ≡ accepted → Demand3 (setByte input) (handedIn (setByte input) input))
+      × (sheetAnswer input ≡ accepted → WithinCeiling (setByte input) (handedIn (setByte input) input))))))
 
   -- a slice does not fit
   pub nothing-written : sheetFits (length text) (length work) ≡ false → Left 0 text work
-  nothing-written e = rw e (refl, (omega arith, (refl, (refl, sheet-claim input bytes))))
+  nothing-written e = rw e (refl, (omega arith, (refl, (refl, (sheet-claim input bytes, sheet-within input bytes)))))
 
   -- both fit
   pub sheet-written : {count : ℕ} {text₁ work₁ : List ℕ} → sheetFits (length text) (length work) ≡ true → Printed text (sheetOf input) text₁ count
       → work₁ ≡ replicate (length work) 0 → Left count text₁ work₁
-  sheet-written e printed cleared = rw e (printed .count-is, (printed .short, (printed .text-is, (cleared, sheet-claim input bytes))))
+  sheet-written e printed cleared =
+      rw e (printed .count-is, (printed .short, (printed .text-is, (cleared, (sheet-claim input bytes, sheet-within input bytes)))))

@@ -11,7 +11,7 @@ use Rattle.maths.specs.Rounding.{floorBit}
 use Rattle.calls.specs.Checks.{passing, refuseFirst}
 use Rattle.calls.specs.Region.{region, joined}
 use Rattle.sets.specs.Table.{none, table, setOf}
-use Rattle.sets.specs.Derived.{halfModulus, multiplierBits, multiplierBound}
+use Rattle.sets.specs.Derived.{halfModulus, multiplierCount, multiplierBits, multiplierBound}
 use Rattle.numbers.specs.Scheme.{keyPart, key, sumOfProducts, firstPart, sumOfMiddles, secondPart, opened, roundedBit, reading}
 use Rattle.numbers.specs.Noise.{numbersNoise}
 use Rattle.draws.specs.Calls.{inTurn}
@@ -19,7 +19,7 @@ use Rattle.sheet_bench.specs.Bench as bench
 use Rattle.sheet_text.specs.Decimal as decimal
 use Rattle.sheet_text.specs.Order.{shown, ordered, inserted, insert, before, sizeAt}
 use Rattle.sheet_text.specs.Text.{header, row, rows, ceilingWord, halfWord, lastLine, sheetText, refusedWord, refusedText}
-use Rattle.sheet_text.specs.Ceiling.{ceiling}
+use Rattle.ceiling.specs.Ceiling.{mostProducts, mostDropped, ceiling}
 use Rattle.sheet_parts.specs.Checks.{hasSheet, inputBytes, setByte, inputAnswer}
 use Rattle.sheet_rows.specs.Input.{handedIn, rowNoise, rowSent, rowRead, rowsAnswer}
 use Rattle.sheet.specs.Sheet.{sheetAnswer, rowsText, sheetOf}
@@ -38,11 +38,11 @@ sheetOf-example :
     48 ∷ 32 ∷ 45 ∷ 50 ∷ 32 ∷ 49 ∷ 32 ∷ 49 ∷ 10 ∷
     49 ∷ 32 ∷ 45 ∷ 49 ∷ 32 ∷ 48 ∷ 32 ∷ 48 ∷ 10 ∷
     99 ∷ 101 ∷ 105 ∷ 108 ∷ 105 ∷ 110 ∷ 103 ∷ 32 ∷ 52 ∷ 32 ∷ 104 ∷ 97 ∷ 108 ∷ 102 ∷ 32 ∷ 56 ∷ 10 ∷ []
-unfolding sheetOf sheetAnswer inputAnswer setByte hasSheet inputBytes rowsAnswer rowsText rowNoise rowSent rowRead ceiling halfModulus none table
-    setOf bench.benchAnswer bench.benchFits bench.signed handedIn inTurn refuseFirst passing multiplierBound multiplierBits region numbersNoise
-    productℤ sumℤ joined tabulate sum product middleProduct residue floorBit keyPart key sumOfProducts firstPart sumOfMiddles secondPart opened
-    roundedBit reading sheetText header rows row lastLine ceilingWord halfWord shown ordered inserted insert before sizeAt decimal.signed
-    decimal.decimal decimal.digits
+unfolding sheetOf sheetAnswer inputAnswer setByte hasSheet inputBytes rowsAnswer rowsText rowNoise rowSent rowRead ceiling mostProducts mostDropped
+    halfModulus multiplierCount none table setOf bench.benchAnswer bench.benchFits bench.signed handedIn inTurn refuseFirst passing multiplierBound
+    multiplierBits region numbersNoise productℤ sumℤ joined tabulate sum product middleProduct residue floorBit keyPart key sumOfProducts firstPart
+    sumOfMiddles secondPart opened roundedBit reading sheetText header rows row lastLine ceilingWord halfWord shown ordered inserted insert before
+    sizeAt decimal.signed decimal.decimal decimal.digits
 sheetOf-example = refl
 
 -- refused 2 0, for an empty input

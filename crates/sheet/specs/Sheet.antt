@@ -8,7 +8,7 @@ use lib.Dec.{leb, eqb}
 use Rattle.calls.specs.Outcome.{Outcome, accepted, refused}
 use Rattle.sets.specs.Table.{table, setOf}
 use Rattle.sets.specs.Derived.{isEncryption, halfModulus}
-use Rattle.sheet_text.specs.Ceiling.{ceiling}
+use Rattle.ceiling.specs.Ceiling.{ceiling}
 use Rattle.sheet_text.specs.Text.{sheetText, refusedText}
 use Rattle.sheet_parts.specs.Checks.{hasSheet, inputBytes, setByte, inputAnswer}
 use Rattle.sheet_rows.specs.Input.{rowNoise, rowSent, rowRead, rowsAnswer, sheetWork}

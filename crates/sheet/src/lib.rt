@@ -8,6 +8,7 @@ ghost use lib.ListN.{length, replicate};
 ghost use Rattle.calls.specs.Outcome.{accepted};
 ghost use Rattle.calls.specs.Region.{over};
 ghost use Rattle.claim.specs.Claim.{Demand3};
+ghost use Rattle.claim.specs.Ceiling.{WithinCeiling};
 ghost use Rattle.sheet_rows.specs.Input.{handedIn};
 ghost use Rattle.sheet_parts.specs.Checks.{setByte};
 ghost use Rattle.sheet.specs.Sheet.{sheetAnswer, sheetOf, sheetFits};
@@ -23,6 +24,8 @@ pub fn sheet(input: &[u8], text: &mut [u8], work: &mut [u32]) -> usize
         (replicate (length (now (work .entry))) 0) (now (work .entry)) ⌝ }
     ensures claim { λ _. ⌜ (sheetAnswer (now (input .entry)) ≡ accepted
         → Demand3 (setByte (now (input .entry))) (handedIn (setByte (now (input .entry))) (now (input .entry)))) ⌝ }
+    ensures ceiling { λ _. ⌜ (sheetAnswer (now (input .entry)) ≡ accepted
+        → WithinCeiling (setByte (now (input .entry))) (handedIn (setByte (now (input .entry))) (now (input .entry)))) ⌝ }
 {
     if text.len() < 1024 {
         return 0;

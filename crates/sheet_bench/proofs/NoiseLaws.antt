@@ -3,7 +3,6 @@
 use mathlib.Core.Path.{_≡_, refl, sym, ap, ap₂, _∙_}
 use mathlib.Core.List.{List, [], _∷_}
 use Prim.Native.Nat.{ℕ, zero, suc, _+_, _≤_, _<_}
-use native.Mathlib.Nat.{mul-le-mul}
 use native.Mathlib.Omega.{arith}
 use lib.IntN.{ℤ, pos, negsuc, _+ℤ_, _*ℤ_, natAbs, +ℤ-idl, +ℤ-idr, zero-*ℤ}
 use lib.ListN.{length, getD, set}
@@ -11,7 +10,8 @@ use mir.Syntax.{w32, w64}
 use mir.Val.{SFits, ofZ, toZ}
 use mir.ValLaws.{toZ-ofZ}
 use Rattle.maths.specs.Integer.{sumℤ, productℤ}
-use Rattle.maths.proofs.Integer.{natAbs-+ℤ, natAbs-*ℤ}
+use Rattle.maths.proofs.Integer.{natAbs-+ℤ}
+use Rattle.maths.proofs.Size.{natAbs-*ℤ-most}
 use Rattle.calls.specs.Region.{region}
 use Rattle.sets.specs.Table.{none, table, setOf}
 use Rattle.numbers.specs.Noise.{numbersNoise}
@@ -35,7 +35,7 @@ small-fits-double {z = negsuc n} h = record { sfits = omega arith }
 
 -- the product of a multiplier and an error
 product-small : (x y : ℤ) → natAbs x ≤ 2 → natAbs y ≤ 1 → natAbs (x *ℤ y) ≤ 2
-product-small x y h k = rw (natAbs-*ℤ x y) (mul-le-mul {n₁ = natAbs x} {m₁ = natAbs y} {n₂ = 2} {m₂ = 1} h k)
+product-small x y h k = natAbs-*ℤ-most x y 2 1 h k
 
 -- the products at a place of the noise
 noise-entries : (a b c x y : ℤ) (j : ℕ) → j < 2

@@ -14,7 +14,7 @@ use lib.ListN.{length, getD, drop, length-map, List·getD-eq-default}
 use Rattle.maths.specs.Vector.{at}
 use Rattle.maths.specs.Integer.{residue, centre, correlationℤ}
 use Rattle.maths.proofs.Vector.{at-past}
-use Rattle.maths.proofs.Integer.{residue-lt, centre-residue, sumℤ-cong, natAbs-+ℤ}
+use Rattle.maths.proofs.Integer.{residue-lt, centre-residue, sumℤ-cong}
 use Rattle.calls.specs.Checks.{allOf}
 use Rattle.calls.specs.Region.{vector}
 use Rattle.calls.proofs.Region.{region-entry}
@@ -24,6 +24,7 @@ use Rattle.sets.specs.Table.{table, setOf, IsSet}
 use Rattle.sets.specs.Derived.{halfModulus, multiplierCount, errorCount, multiplierBits}
 use Rattle.sets.proofs.Rules.{rules, byteRules}
 use Rattle.sets.proofs.Tested.{passed, at-each}
+use Rattle.ceiling.proofs.Laws.{ceiling-most}
 use Rattle.draws.specs.Calls.{inTurn}
 use Rattle.sets.proofs.Counts.{bits-most}
 use Rattle.draws.proofs.Laws.{power-most, turn-length, turn-at}
@@ -34,9 +35,10 @@ use Rattle.scheme.specs.Encryption.{secretSeed, publicKey, errors, encryptedNum
 use Rattle.scheme.specs.Noise.{productNoise, droppedNoise, noise}
 use Rattle.scheme.proofs.Answers.{all-below}
 use Rattle.scheme.proofs.Conditions.{set-conditions}
+use Rattle.scheme.proofs.Sizes.{noise-most}
 use Rattle.scheme.proofs.Bytes.{keyNumbers-below, encryptedNumbers-below, cipherSecond-at}
 use Rattle.sheet_noise.specs.Centred.{Residues, centredTerm, centredCorrelation, centredPart, centredProduct, centredDropped, centredNoise, drawnNoise}
-use Rattle.sheet_noise.proofs.Sums.{room, product-most, dropped-most}
+use Rattle.sheet_noise.proofs.Sums.{room}
 
 -- numbers that are equal in turn
 pub turn-cong : (f g : ℕ → ℤ) (first n : ℕ) → ((j : ℕ) → j < first + n → f j ≡ g j) → inTurn f first n ≡ inTurn g first n
@@ -122,16 +124,6 @@ module _ (set : ℕ) (some : 1 ≤ set) (low : IsSet set) (secret sealing : List
       (λ k l. omega (arith, errorsDrawn-most (setOf set) (secretState (setOf set) secret) k l, half-large set some low))
       j h
 
-  -- its size
-  pub drawn-most : (j : ℕ) → j < setOf set .d → natAbs (productNoise (setOf set) (multipliersDrawn (setOf set) sealing) (errors (setOf set) secret) j) ≤ 2 ^ 60
-  drawn-most j h =
-      let kept = rules set low in
-      let positive : 0 < setOf set .q = omega (arith, kept .prime .above) in
-      rw (sym (drawn-product j h))
-      (product-most (setOf set) kept (byteRules set some low) (map (residue (setOf set .q)) (multipliersDrawn (setOf set) sealing))
-      (map (residue (setOf set .q)) (errors (setOf set) secret)) (map-residues (setOf set .q) (multipliersDrawn (setOf set) sealing) positive)
-      (map-residues (setOf set .q) (errors (setOf set) secret) positive) j)
-
   -- the noise over the residues drawn
   pub noise-drawn : (ms es before : List ℕ) → ms ≡ map (residue (setOf set .q)) (multipliersDrawn (setOf set) sealing)
       → es ≡ map (residue (setOf set .q)) (errors (setOf set) secret)
@@ -160,23 +152,12 @@ module _ (set : ℕ) (some : 1 ≤ set) (low : IsSet set) (seed message sealing 
       ap₂ (λ (xs ys : List ℕ). inTurn (drawnNoise (setOf set) xs sealing ys) 0 (setOf set .d)) s made
       ∙ turn-cong _ _ 0 (setOf set .d) (λ j h. noise-place j (rw zero-add at h))
 
-  -- the size of the noise
-  noise-most : (j : ℕ) → j < setOf set .d → natAbs (noise (setOf set) seed message sealing j) < 2 ^ 62
-  unfolding drawnNoise
-  noise-most j h =
-      let before = at (encryptedNumbers (setOf set) (publicKey (setOf set) seed) message sealing) j in
-      let product = productNoise (setOf set) (multipliersDrawn (setOf set) sealing) (errors (setOf set) (secretSeed (setOf set) seed)) j in
-      rw (sym (noise-place j h)) (parts-most product before (drawn-most set some low (secretSeed (setOf set) seed) sealing j h))
-    where
-      parts-most : (z : ℤ) (before : ℕ) → natAbs z ≤ 2 ^ 60 → natAbs (z +ℤ centredDropped (setOf set) before) < 2 ^ 62
-      parts-most z before m =
-          omega (arith, natAbs-+ℤ z (centredDropped (setOf set) before), dropped-most (setOf set) (rules set low) (byteRules set some low) before)
-
-  -- so every place of the list is small
+  -- every place of the list is small: no noise exceeds the ceiling
   pub noise-small : (out : List ℤ) → out ≡ inTurn (noise (setOf set) seed message sealing) 0 (setOf set .d) → (j : ℕ) → natAbs (getD out j (pos 0)) < 2 ^ 62
   noise-small out made j =
       elim (decLt j (setOf set .d)) [
-        | yes h ↦ rw (made, turn-at (noise (setOf set) seed message sealing) 0 (setOf set .d) j (pos 0) h, zero-add) (noise-most j h)
+        | yes h ↦ rw (made, turn-at (noise (setOf set) seed message sealing) 0 (setOf set .d) j (pos 0) h, zero-add)
+            (omega (arith, noise-most (set-conditions set some low) seed message sealing j h, ceiling-most (setOf set) (rules set low)))
         | no h ↦ let past : length out ≤ j = rw (made, turn-length) (omega arith) in rw (List·getD-eq-default out (pos 0) past) (omega arith)
       ]
 

@@ -10,9 +10,10 @@ use mir.Syntax.{w64}
 use mir.Val.{SFits, toZ, ofZ}
 use mir.Facts.{toZ-ofZ}
 use Rattle.maths.specs.Vector.{at}
-use Rattle.maths.specs.Integer as integer
 use Rattle.maths.specs.Integer.{sumℤ, centre}
-use Rattle.maths.proofs.Integer.{natAbs-+ℤ, natAbs-*ℤ, natAbs-centre, sumℤ-none, sumℤ-last}
+use Rattle.maths.proofs.Sum.{sum-const}
+use Rattle.maths.proofs.Integer.{natAbs-centre, sumℤ-none, sumℤ-last}
+use Rattle.maths.proofs.Size.{sumℤ-most, natAbs-*ℤ-most}
 use Rattle.sets.specs.declared.Parameters.{Parameters}
 use Rattle.sets.specs.Rules.{Rules, ByteRules}
 use Rattle.sets.specs.Derived.{halfModulus, multiplierCount, errorDrawBytes, errorCount}
@@ -31,9 +32,7 @@ remainder-below r x q e h = rw e (mod-lt x (omega arith))
 
 -- terms of bounded size
 sum-most : (n most : ℕ) (f : ℕ → ℤ) → ((i : ℕ) → natAbs (f i) ≤ most) → natAbs (sumℤ n f) ≤ n * most
-unfolding integer.sumℤ
-sum-most zero most f each = omega arith
-sum-most (suc n) most f each = omega (arith, natAbs-+ℤ (sumℤ n f) (f n), sum-most n most f each, each n)
+sum-most n most f each = rw (← sum-const n most) (sumℤ-most n f (λ i. most) (λ i h. each i))
 
 -- a word holds the sum of the first l of n terms
 pub record Summing (f : ℕ → ℤ) (n l word : ℕ) : Type 0 where
@@ -78,9 +77,7 @@ module _ (half : ℕ) (r : List ℕ) (first : ℕ) (e : List ℕ) (place : ℕ) 
     term-most l =
         let one : natAbs (centre half (at r (first + l))) ≤ half = natAbs-centre half (at r (first + l)) (rs .each (first + l)) in
         let other : natAbs (centre half (at e (place + l))) ≤ half = natAbs-centre half (at e (place + l)) (es .each (place + l)) in
-        let most : natAbs (centre half (at r (first + l))) * natAbs (centre half (at e (place + l))) ≤ natAbs (centre half (at r (first + l))) * 8388608 =
-        mul-le-mul-left _ (omega arith) in
-        rw natAbs-*ℤ (omega arith)
+        omega (arith, natAbs-*ℤ-most (centre half (at r (first + l))) (centre half (at e (place + l))) (2 ^ 23) (2 ^ 23) (omega arith) (omega arith))
 
     -- the size of a sum
     pub correlation-most : (n : ℕ) → n ≤ 1024 → natAbs (centredCorrelation half n r first e place) ≤ 2 ^ 56

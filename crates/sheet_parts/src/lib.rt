@@ -1,13 +1,12 @@
 // The parts of the bench sheet that need no rows: the checks of an input, its set byte and its length, and the text of rows that are filled.
 use calls::Answer;
-use sheet_text::last_line;
 ghost use mathlib.Core.Path.{_≡_};
 ghost use Prim.Native.Nat.{_≤_};
 ghost use lib.ListN.{length};
 ghost use Rattle.calls.specs.Outcome.{outcome, accepted};
 ghost use Rattle.sets.specs.Table.{setOf, IsSet};
 ghost use Rattle.sets.specs.Derived.{halfModulus};
-ghost use Rattle.sheet_text.specs.Ceiling.{ceiling};
+ghost use Rattle.ceiling.specs.Ceiling.{ceiling};
 ghost use Rattle.sheet_text.specs.Text.{sheetText};
 ghost use Rattle.sheet_text.specs.Written.{Sealing};
 ghost use Rattle.sheet_parts.specs.Checks.{hasSheet, inputBytes, setByte, inputAnswer};
@@ -71,7 +70,7 @@ pub fn write_accepted(
         (sheetText (now (noise .entry)) (now (sent .entry)) (now (read .entry)) (ceiling (setOf set)) (halfModulus (setOf set))) (now (out .exit)) r ⌝ }
 {
     let p = sets::parameters_of(set);
-    let most = last_line::ceiling(p);
-    let half = last_line::half(p);
+    let most = ceiling::ceiling(p);
+    let half = sets::derived::half_modulus(p) as u64;
     sheet_text::write_sheet(noise, sent, read, most, half, out)
 }

@@ -1,4 +1,4 @@
--- Demand 3 on what an input hands in.
+-- Demand 3 and the ceiling on what an input hands in.
 -- Assumes nothing.
 use mathlib.Core.Path.{_≡_, sym, _∙_}
 use mathlib.Core.Bool.{true}
@@ -14,9 +14,10 @@ use Rattle.calls.proofs.Region.{region-length, region-entry}
 use Rattle.sets.specs.Table.{setOf}
 use Rattle.packing.specs.Digits.{Digit}
 use Rattle.scheme.specs.Answers.{keyDraws}
-use Rattle.claim.specs.Claim.{encryption, Fits, Demand3}
+use Rattle.claim.specs.Claim.{encryption, Fits, drawn, Demand3}
+use Rattle.claim.specs.Ceiling.{WithinCeiling}
 use Rattle.claim.proofs.Claim.{demand-3}
-use Rattle.sheet_bench.specs.Bench.{benchHanded}
+use Rattle.claim.proofs.Ceiling.{within-ceiling}
 use Rattle.sheet_bench.proofs.Numbers.{bench-drawn}
 use Rattle.sheet_parts.specs.Checks.{hasSheet, inputBytes}
 use Rattle.sheet_rows.specs.Input.{keySeedOf, sealingSeedOf, messageOf, handedIn, rowsAnswer}
@@ -56,13 +57,23 @@ answer-seeds : (set : ℕ) (input : List ℕ) → 1 ≤ set → rowsAnswer set i
 unfolding rowsAnswer
 answer-seeds set input some = rw (ne-eqb set 0 (λ z. omega arith))
 
--- demand 3 on the rows of an accepted input
-pub rows-claim : (set : ℕ) (input : List ℕ) → Digit 8 input → hasSheet set ≡ true → length input ≡ inputBytes set → rowsAnswer set input ≡ accepted
-    → Demand3 set (handedIn set input)
+-- what an accepted input hands in fits, and no draw of it is refused
+rows-taken : (set : ℕ) (input : List ℕ) → Digit 8 input → hasSheet set ≡ true → length input ≡ inputBytes set → rowsAnswer set input ≡ accepted
+    → Fits set (handedIn set input) × (drawn set (handedIn set input) ≡ accepted)
 unfolding inputBytes rowsAnswer handedIn
-rows-claim zero input bytes has size answer = demand-3 0 (benchHanded input) (omega arith) tt (bench-drawn input size answer)
-rows-claim (suc set) input bytes has size answer =
-    rw (handed-seeds (suc set) input (omega arith))
-    (demand-3 (suc set) (encryption (keySeedOf input) (messageOf input) (sealingSeedOf input)) (sheet-set (suc set) has)
-    (input-fits (suc set) input bytes has (omega arith) (size ∙ input-long (suc set) (omega arith)))
-    (sym (answer-seeds (suc set) input (omega arith)) ∙ answer))
+rows-taken zero input bytes has size answer = (tt, bench-drawn input size answer)
+rows-taken (suc set) input bytes has size answer =
+    rw (handed-seeds (suc set) input (omega arith)) (
+      input-fits (suc set) input bytes has (omega arith) (size ∙ input-long (suc set) (omega arith)),
+      sym (answer-seeds (suc set) input (omega arith)) ∙ answer,
+    )
+
+module _ (set : ℕ) (input : List ℕ) (bytes : Digit 8 input) (has : hasSheet set ≡ true) (size : length input ≡ inputBytes set)
+    (answer : rowsAnswer set input ≡ accepted) where
+  -- demand 3 on the rows of an accepted input
+  pub rows-claim : Demand3 set (handedIn set input)
+  rows-claim = let taken = rows-taken set input bytes has size answer in demand-3 set (handedIn set input) (sheet-set set has) (taken .0) (taken .1)
+
+  -- and their noise is within the ceiling
+  pub rows-within : WithinCeiling set (handedIn set input)
+  rows-within = let taken = rows-taken set input bytes has size answer in within-ceiling set (handedIn set input) (sheet-set set has) (taken .0) (taken .1)

@@ -3,26 +3,26 @@
 use mathlib.Core.Path.{_≡_, refl, sym, _∙_}
 use mathlib.Core.List.{List}
 use Prim.Native.Nat.{ℕ, zero, suc, _+_, _-_, _^_, _≤_, _<_}
-use native.Mathlib.Nat.{mul-le-mul}
 use native.Mathlib.Omega.{arith}
 use borrow.Author.Tests.{ne-eqb}
-use lib.IntN.{ℤ, pos, natAbs, _+ℤ_, _*ℤ_}
+use lib.IntN.{ℤ, pos, natAbs}
 use lib.ListN.{length, getD, take, drop}
 use Rattle.maths.proofs.Vector.{tabulate-self}
-use Rattle.maths.proofs.Integer.{natAbs-+ℤ, natAbs-*ℤ}
 use Rattle.calls.specs.Outcome.{Outcome, accepted, leaves}
 use Rattle.calls.proofs.Outcome.{leaves-accepted}
 use Rattle.calls.proofs.Region.{region-part, region-length}
 use Rattle.sets.specs.Table.{none, table, setOf}
+use Rattle.sets.proofs.Rules.{rules}
+use Rattle.ceiling.proofs.Laws.{ceiling-most}
 use Rattle.numbers.specs.Noise.{numbersNoise}
 use Rattle.numbers.proofs.Laws.{reading-length}
 use Rattle.packing.proofs.Laws.{messageBits-length}
 use Rattle.draws.specs.Calls.{inTurn}
 use Rattle.scheme.specs.Bits.{messageBit}
 use Rattle.scheme.specs.Answers.{keyDraws}
-use Rattle.sheet_bench.specs.Bench.{bench, benchSecret, benchErrors, benchMultipliers, benchMessage, benchAnswer, benchNoise, benchRead}
-use Rattle.sheet_bench.proofs.Numbers.{bench-message, bench-small}
-use Rattle.sheet_bench.proofs.NoiseLaws.{noise-two}
+use Rattle.claim.proofs.Ceiling.{within-ceiling}
+use Rattle.sheet_bench.specs.Bench.{bench, benchHanded, benchSecret, benchErrors, benchMultipliers, benchMessage, benchAnswer, benchNoise, benchRead}
+use Rattle.sheet_bench.proofs.Numbers.{bench-message, bench-drawn}
 use Rattle.sheet_text.specs.Written.{Sizes}
 use Rattle.sheet_text.proofs.OrderLaws.{sizes-small}
 use Rattle.sheet_parts.specs.Checks.{inputBytes}
@@ -47,22 +47,12 @@ message-part : (input : List ℕ) → take (97 - 65) (drop 65 input) ≡ message
 unfolding messageOf
 message-part input = region-part input 65 32 97 refl
 
--- two products of set 0 are small
-product-small : (x y : ℤ) → natAbs x ≤ 2 → natAbs y ≤ 1 → natAbs (x *ℤ y) ≤ 2
-product-small x y h k = rw (natAbs-*ℤ x y) (mul-le-mul {n₁ = natAbs x} {m₁ = natAbs y} {n₂ = 2} {m₂ = 1} h k)
-
-two-small : (x y u v : ℤ) → natAbs x ≤ 2 → natAbs y ≤ 1 → natAbs u ≤ 2 → natAbs v ≤ 1 → natAbs (x *ℤ y +ℤ u *ℤ v) < 2 ^ 62
-two-small x y u v hx hy hu hv = omega (arith, natAbs-+ℤ (x *ℤ y) (u *ℤ v), product-small x y hx hy, product-small u v hu hv)
-
 module _ (input : List ℕ) (size : length input ≡ 14) (answer : benchAnswer input ≡ accepted) where
-  -- so is its noise
+  -- no noise of set 0 exceeds the ceiling
   bench-most : (j : ℕ) → j < 2 → natAbs (numbersNoise bench (benchErrors input) (benchMultipliers input) j) < 2 ^ 62
   bench-most j h =
-      let small = bench-small input size answer in
-      rw (← noise-two (benchErrors input) (benchMultipliers input) j (small .errors-length) (small .multipliers-length) h)
-      (two-small (getD (benchMultipliers input) 0 (pos 0)) (getD (benchErrors input) (j + 1) (pos 0)) (getD (benchMultipliers input) 1 (pos 0))
-      (getD (benchErrors input) j (pos 0)) (small .multipliers 0 (omega arith)) (small .errors (j + 1) (omega arith))
-      (small .multipliers 1 (omega arith)) (small .errors j (omega arith)))
+      let within = within-ceiling 0 (benchHanded input) (omega arith) tt (bench-drawn input size answer) j (omega (arith, bench-message)) in
+      omega (arith, within, ceiling-most bench (rules 0 (omega arith)))
 
   bench-at : (j : ℕ) → j < length (benchNoise input) → natAbs (getD (benchNoise input) j (pos 0)) < 2 ^ 62
   unfolding benchNoise

@@ -1,4 +1,3 @@
-pub mod CeilingLaws
 pub mod DecimalLaws
 pub mod WrittenLaws
 pub mod SignedWord

@@ -1,4 +1,3 @@
-pub mod Ceiling
 pub mod Decimal
 pub mod Order
 pub mod Text

@@ -11,8 +11,9 @@ pub const BENCH: [u8; 14] = [0, 3, 5, 1, 2, 3, 4, 1, 0, 255, 1, 254, 1, 0];
 
 /// The inputs of the known sheets of an independent model.
 fn known_inputs() -> Vec<Vec<u8>> {
-    let hex = include_str!("../../vectors/sheets.txt").lines().filter(|line| line.len() == 194);
-    hex.map(|line| (0..97).map(|i| u8::from_str_radix(&line[2 * i..2 * i + 2], 16).unwrap()).collect()).collect()
+    let lines = include_str!("../../vectors/sheets.txt").lines();
+    let hex = lines.filter(|line| !line.is_empty() && line.bytes().all(|byte| byte.is_ascii_hexdigit()));
+    hex.map(|line| (0..line.len() / 2).map(|i| u8::from_str_radix(&line[2 * i..2 * i + 2], 16).unwrap()).collect()).collect()
 }
 
 /// 01's Bench input with one byte changed.
