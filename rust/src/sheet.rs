@@ -102,7 +102,7 @@ fn rows(input: &[u8]) -> Result<(Set, Vec<Row>), Refusal> {
     }
 }
 
-/// The largest size that a noise of the set can have: η times the sum of B/2 over every position, and all low bits of a number dropped.
+/// A size that no noise of the set exceeds: η times the sum of B/2 over every position, plus all the low bits that packing drops of one number.
 fn ceiling(s: &Set) -> u64 {
     let sizes: u64 = (0..s.multipliers()).map(|position| multiplier_bound(s, position) as u64).sum();
     s.eta as u64 * sizes + (1 << s.dropped_bits) - 1
@@ -121,6 +121,7 @@ fn text(s: &Set, mut rows: Vec<Row>) -> String {
 #[cfg(test)]
 mod tests {
     use super::{ceiling, noise, sheet};
+    use crate::expected::known::bytes;
     use crate::parameters::set;
     use crate::scheme::{key, sealed_numbers};
 
@@ -171,8 +172,7 @@ mod tests {
         let text = include_str!("../vectors/sheets.txt");
         for known in text.trim_end().split("\n\n") {
             let lines: Vec<&str> = known.lines().filter(|line| !line.starts_with('#')).collect();
-            let input: Vec<u8> = (0..lines[0].len() / 2).map(|i| u8::from_str_radix(&lines[0][2 * i..2 * i + 2], 16).unwrap()).collect();
-            assert_eq!(sheet(&input), lines[1..].join("\n") + "\n");
+            assert_eq!(sheet(&bytes(lines[0])), lines[1..].join("\n") + "\n");
         }
     }
 }

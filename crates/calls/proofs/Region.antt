@@ -5,13 +5,17 @@ use mathlib.Core.Path.{_≡_, refl, sym, ap, _∙_}
 use mathlib.Core.List.{List, [], _∷_, _++_, append-assoc, append-nil}
 use mathlib.Core.Logic.{inl, inr}
 use Prim.Native.Nat.{ℕ, zero, suc, _+_, _-_, _*_, _≤_, _<_}
-use native.Mathlib.Nat.{zero-add, add-zero, mul-zero, mul-suc, mul-le-mul-left, eq-or-lt-of-le, le-of-suc-le-suc}
+use native.Mathlib.Nat.{zero-add, add-zero, mul-zero, mul-suc, mul-comm, mul-le-mul-left, eq-or-lt-of-le, le-of-suc-le-suc}
 use native.Mathlib.Decide.{decLt}
 use native.Mathlib.Omega.{arith}
 use lib.ListN.{length, getD, take, drop, length-append, length-take, length-drop, take-append-drop, List·getD-append}
 use lib.Seq.{length-take-le, take-at, drop-at, drop-drop, take-add, take-append-le, drop-append-le, getD-take, getD-drop, getD-append-add, ext-getD, take-all}
 use lib.Seq.{drop-length}
 use Rattle.calls.specs.Region.{region, over, vector, joined}
+
+-- vector i of t vectors of n entries ends with them or before
+pub vector-fits : (n t i : ℕ) → i < t → n * i + n ≤ t * n
+vector-fits n t i h = rw (← mul-suc n i, mul-comm t n) (mul-le-mul-left {m = suc i} {n = t} n h)
 
 module _ {A : Type 0} where
   -- two lists of one length that agree at each place are equal, whatever entry is read past the end
@@ -147,6 +151,15 @@ module _ {A : Type 0} where
         sym (over-parts (over xs start ys) (start + length ys) zs end refl)
         ∙ rw (over-front, ← drop-drop (length zs) (start + length ys) (over xs start ys), over-drop, drop-drop, append-assoc (take start xs) ys zs)
         (over-parts xs start (ys ++ zs) end (simp length-append (omega arith)))
+
+  -- vector i of t vectors has its length
+  pub vector-length : (n t i : ℕ) (xs : List A) → length xs ≡ t * n → i < t → length (vector n xs i) ≡ n
+  vector-length n t i xs size h = region-length xs (n * i) n (rw size (vector-fits n t i h))
+
+  -- what holds of each entry by its place holds of each entry of vector i
+  pub vector-each : (P : ℕ → A → Type 0) (n t : ℕ) (xs : List A) (d : A) → ((m : ℕ) → m < t * n → P m (getD xs m d)) → (i l : ℕ) → i < t → l < n
+      → P (n * i + l) (getD (vector n xs i) l d)
+  vector-each P n t xs d each i l h k = rw (region-entry xs (n * i) n l d k) (each (n * i + l) (omega (arith, vector-fits n t i h)))
 
   -- the length of vectors of n entries each, one after the other
   pub joined-length : (n t : ℕ) (f : ℕ → List A) → ((i : ℕ) → i < t → length (f i) ≡ n) → length (joined t f) ≡ n * t

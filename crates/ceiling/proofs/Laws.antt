@@ -1,9 +1,9 @@
--- Laws of the ceiling: the sum over positions by its two kinds, what bounds the noise of numbers in range, vector by vector, and how large a ceiling is.
+-- Laws of the ceiling: the sum over positions as two products, what bounds the noise of numbers in range, vector by vector, and how large a ceiling is.
 -- Assumes nothing.
 use mathlib.Core.Path.{_≡_, ap, ap₂, _∙_}
 use mathlib.Core.List.{List}
-use Prim.Native.Nat.{ℕ, suc, _+_, _-_, _*_, _^_, _≤_, _<_}
-use native.Mathlib.Nat.{mul-le-mul, mul-le-mul-left}
+use Prim.Native.Nat.{ℕ, _+_, _-_, _*_, _^_, _≤_, _<_}
+use native.Mathlib.Nat.{mul-le-mul}
 use native.Mathlib.Omega.{arith}
 use borrow.Author.Tests.{lt-ltb, le-ltb}
 use lib.IntN.{ℤ, pos, natAbs}
@@ -14,22 +14,26 @@ use Rattle.maths.specs.Integer.{sumℤ}
 use Rattle.maths.proofs.Sum.{sum-cong, sum-mono, sum-const, sum-split, sum-mul-left, sum-blocks}
 use Rattle.maths.proofs.Size.{sumℤ-most}
 use Rattle.calls.specs.Region.{vector}
-use Rattle.calls.proofs.Region.{region-entry}
+use Rattle.calls.proofs.Region.{vector-each}
 use Rattle.sets.specs.declared.Parameters.{Parameters}
 use Rattle.sets.specs.Derived.{multiplierCount, multiplierBits, multiplierBound, errorCount}
 use Rattle.sets.specs.Rules.{Rules}
 use Rattle.sets.proofs.Counts.{bits-most}
 use Rattle.ceiling.specs.Ceiling.{mostProducts, mostDropped, ceiling}
 
+-- B/2 at number l of vector i of the multipliers
+abbrev pub vectorBound : Parameters → ℕ → ℕ → ℕ
+vectorBound p i l = multiplierBound p ((p .k + 1) * i + l)
+
 module _ (p : Parameters) where
   -- the first positions have b1 bits, the others b2
-  first-bound : (i : ℕ) → i < p .ndec1 → multiplierBound p i ≡ 2 ^ p .b1
+  first-size : (i : ℕ) → i < p .ndec1 → multiplierBound p i ≡ 2 ^ p .b1
   unfolding multiplierBound multiplierBits
-  first-bound i h = rw (lt-ltb i (p .ndec1) h)
+  first-size i h = rw (lt-ltb i (p .ndec1) h)
 
-  other-bound : (i : ℕ) → p .ndec1 ≤ i → multiplierBound p i ≡ 2 ^ p .b2
+  other-size : (i : ℕ) → p .ndec1 ≤ i → multiplierBound p i ≡ 2 ^ p .b2
   unfolding multiplierBound multiplierBits
-  other-bound i h = rw (le-ltb i (p .ndec1) h)
+  other-size i h = rw (le-ltb i (p .ndec1) h)
 
   -- so the sum over all positions is two products
   pub sizes-are : p .ndec1 ≤ multiplierCount p
@@ -38,43 +42,39 @@ module _ (p : Parameters) where
       let others : ℕ = multiplierCount p - p .ndec1 in
       let all : multiplierCount p ≡ p .ndec1 + others = omega arith in
       ap (λ (n : ℕ). sum n (multiplierBound p)) all ∙ sum-split (p .ndec1) others (multiplierBound p)
-      ∙ ap₂ _+_ (sum-cong (p .ndec1) _ _ first-bound ∙ sum-const (p .ndec1) (2 ^ p .b1))
-      (sum-cong others _ _ (λ i h. other-bound (p .ndec1 + i) (omega arith)) ∙ sum-const others (2 ^ p .b2))
+      ∙ ap₂ _+_ (sum-cong (p .ndec1) _ _ first-size ∙ sum-const (p .ndec1) (2 ^ p .b1))
+      (sum-cong others _ _ (λ i h. other-size (p .ndec1 + i) (omega arith)) ∙ sum-const others (2 ^ p .b2))
 
   -- t parts, each at most η times the sum of B/2 over its own k + 1 positions
-  pub parts-most : (part : ℕ → ℤ) → ((i : ℕ) → i < p .t → natAbs (part i) ≤ p .eta * sum (p .k + 1) (λ l. multiplierBound p ((p .k + 1) * i + l)))
+  pub parts-most : (part : ℕ → ℤ) → ((i : ℕ) → i < p .t → natAbs (part i) ≤ p .eta * sum (p .k + 1) (vectorBound p i))
       → natAbs (sumℤ (p .t) part) ≤ mostProducts p
   unfolding mostProducts multiplierCount
   parts-most part each =
-      rw (sum-blocks (p .t) (p .k + 1) (multiplierBound p), ← sum-mul-left (p .t) (p .eta) (λ i. sum (p .k + 1) (λ l. multiplierBound p ((p .k + 1) * i + l))))
-      (sumℤ-most (p .t) part (λ i. p .eta * sum (p .k + 1) (λ l. multiplierBound p ((p .k + 1) * i + l))) each)
+      rw (sum-blocks (p .t) (p .k + 1) (multiplierBound p), ← sum-mul-left (p .t) (p .eta) (λ i. sum (p .k + 1) (vectorBound p i)))
+      (sumℤ-most (p .t) part (λ i. p .eta * sum (p .k + 1) (vectorBound p i)) each)
 
   -- numbers in range: each multiplier by its position, and the errors
   pub record InRange (r e : List ℤ) : Type 0 where
     pub multipliers : (i : ℕ) → i < multiplierCount p → natAbs (getD r i (pos 0)) ≤ multiplierBound p i
     pub errors : (i : ℕ) → i < errorCount p → natAbs (getD e i (pos 0)) ≤ p .eta
 
-  module _ {r e : List ℤ} (given : InRange r e) (i : ℕ) (h : i < p .t) (l : ℕ) where
+  module _ {r e : List ℤ} (given : InRange r e) (i l : ℕ) (h : i < p .t) where
     -- number l of vector i of them
-    pub multiplier-most : l < p .k + 1 → natAbs (getD (vector (p .k + 1) r i) l (pos 0)) ≤ multiplierBound p ((p .k + 1) * i + l)
+    pub multiplier-most : l < p .k + 1 → natAbs (getD (vector (p .k + 1) r i) l (pos 0)) ≤ vectorBound p i l
     unfolding multiplierCount
-    multiplier-most k =
-        let fits : (p .k + 1) * suc i ≤ (p .k + 1) * p .t = mul-le-mul-left (p .k + 1) h in
-        rw (region-entry r ((p .k + 1) * i) (p .k + 1) l (pos 0) k) (given .multipliers ((p .k + 1) * i + l) (omega arith))
+    multiplier-most k = vector-each (λ m z. natAbs z ≤ multiplierBound p m) (p .k + 1) (p .t) r (pos 0) (given .multipliers) i l h k
 
     pub error-most : l < p .d + p .k → natAbs (getD (vector (p .d + p .k) e i) l (pos 0)) ≤ p .eta
     unfolding errorCount
-    error-most k =
-        let fits : (p .d + p .k) * suc i ≤ (p .d + p .k) * p .t = mul-le-mul-left (p .d + p .k) h in
-        rw (region-entry e ((p .d + p .k) * i) (p .d + p .k) l (pos 0) k) (given .errors ((p .d + p .k) * i + l) (omega arith))
+    error-most k = vector-each (λ m z. natAbs z ≤ p .eta) (p .d + p .k) (p .t) e (pos 0) (given .errors) i l h k
 
   module _ (kept : Rules p) where
-    -- the two sizes of multipliers
+    -- the bounds of both kinds of positions
     pub sizes-small : (2 ^ p .b1 ≤ 512) × (2 ^ p .b2 ≤ 512)
     sizes-small = (pow-mono {i = p .b1} {j = 9} (omega (arith, kept .bounds, kept .most-b2)), pow-mono (kept .most-b2))
 
-    -- all of them
-    pub sizes-most : sum (multiplierCount p) (multiplierBound p) ≤ 4194304
+    -- their sum over all positions
+    sizes-most : sum (multiplierCount p) (multiplierBound p) ≤ 4194304
     unfolding multiplierBound
     sizes-most =
         omega (
@@ -94,7 +94,7 @@ module _ (p : Parameters) where
     unfolding mostDropped
     dropped-most = omega (arith, kept .dropped, kept .odd, kept .small)
 
-    -- so a ceiling has 25 bits
+    -- so a ceiling has at most 25 bits
     pub ceiling-most : ceiling p < 2 ^ 25
     unfolding ceiling
     ceiling-most = omega (arith, products-most, dropped-most)

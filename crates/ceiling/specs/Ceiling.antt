@@ -12,11 +12,11 @@ use Rattle.sets.specs.Derived.{multiplierCount, multiplierBits, multiplierBound
 unfoldable pub mostProducts : Parameters → ℕ
 mostProducts p = p .eta * sum (multiplierCount p) (multiplierBound p)
 
--- the largest size that packing can drop at one place: its cmp low bits, all of them 1
+-- the largest size that packing can drop at one place: the cmp low bits of a number, all of them 1
 unfoldable pub mostDropped : Parameters → ℕ
 mostDropped p = 2 ^ p .cmp - 1
 
--- both
+-- the ceiling: both parts
 unfoldable pub ceiling : Parameters → ℕ
 ceiling p = mostProducts p + mostDropped p
 

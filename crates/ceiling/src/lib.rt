@@ -7,8 +7,8 @@ ghost use Rattle.sets.specs.Derived.{multiplierCount, multiplierBound};
 ghost use Rattle.sets.specs.Rules.{Rules};
 ghost use Rattle.ceiling.specs.Ceiling.{mostProducts, mostDropped, ceiling};
 
-// How many numbers have this many bits.
-fn power(bits: u32) -> u64
+// 2 to the power of this many bits.
+fn power(bits: u32) -> u32
     requires { ⌜ bits ≤ 21 ⌝ }
     ensures { λ r. ⌜ r ≡ 2 ^ bits ⌝ }
 {
@@ -21,10 +21,10 @@ fn multiplier_sizes(p: Parameters) -> u64
     ensures { λ r. ⌜ r ≡ sum (multiplierCount p) (multiplierBound p) ⌝ }
 {
     let others = sets::derived::multiplier_count(p) - p.ndec1;
-    p.ndec1 as u64 * power(p.b1) + others as u64 * power(p.b2)
+    p.ndec1 as u64 * power(p.b1) as u64 + others as u64 * power(p.b2) as u64
 }
 
-// The largest size of the products' part.
+// The products' part of the ceiling.
 fn most_products(p: Parameters) -> u64
     requires { ⌜ Rules p ⌝ }
     ensures { λ r. ⌜ r ≡ mostProducts p ⌝ }
@@ -37,7 +37,7 @@ fn most_dropped(p: Parameters) -> u64
     requires { ⌜ Rules p ⌝ }
     ensures { λ r. ⌜ r ≡ mostDropped p ⌝ }
 {
-    power(p.cmp) - 1
+    power(p.cmp) as u64 - 1
 }
 
 // The ceiling of a set.

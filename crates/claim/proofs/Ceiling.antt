@@ -2,30 +2,30 @@
 -- Assumes nothing.
 use mathlib.Core.Path.{_≡_}
 use mathlib.Core.List.{List}
-use Prim.Native.Nat.{ℕ, _+_, _-_, _*_, _≤_, _<_}
+use Prim.Native.Nat.{ℕ, _+_, _-_, _≤_, _<_}
 use native.Mathlib.Omega.{arith}
 use borrow.Author.Tests.{leb-true}
 use lib.Dec.{leb}
 use lib.IntN.{ℤ, pos, natAbs}
 use lib.ListN.{getD}
+use Rattle.maths.proofs.Tests.{both-true}
 use Rattle.maths.proofs.Size.{productℤ-most}
 use Rattle.calls.specs.Outcome.{accepted}
 use Rattle.calls.specs.Region.{vector}
 use Rattle.calls.proofs.Outcome.{andThen-accepted}
+use Rattle.calls.proofs.Region.{vector-length}
 use Rattle.sets.specs.declared.Parameters.{Parameters}
 use Rattle.sets.specs.Table.{setOf, IsSet}
-use Rattle.sets.specs.Derived.{multiplierBound}
+use Rattle.sets.specs.Derived.{multiplierCount, multiplierBound}
 use Rattle.sets.proofs.Schemes.{encryption-some, exchange-some}
 use Rattle.ceiling.specs.Ceiling.{mostProducts, ceiling}
-use Rattle.ceiling.proofs.Laws.{InRange, parts-most, multiplier-most, error-most}
+use Rattle.ceiling.proofs.Laws.{vectorBound, InRange, parts-most, multiplier-most, error-most}
 use Rattle.numbers.specs.Noise.{numbersNoise}
 use Rattle.scheme.specs.Exchange.{innerSeed, sealingSeed}
 use Rattle.scheme.proofs.Conditions.{set-conditions}
-use Rattle.scheme.proofs.Taken.{both-true}
 use Rattle.scheme.proofs.Sizes.{noise-most}
 use Rattle.claim.specs.Claim.{Handed, onNumbers, encryption, exchange, Fits, keyAnswered, sealingAnswered, drawn}
 use Rattle.claim.specs.Ceiling.{WithinCeiling}
-use Rattle.claim.proofs.Noises.{vector-size}
 use Rattle.claim.proofs.Numbers.{Inputs, inputs-told}
 
 module _ (p : Parameters) {a s : List ℕ} {e r : List ℤ} {m : List ℕ} (given : Inputs p a s e r m) where
@@ -42,13 +42,12 @@ module _ (p : Parameters) {a s : List ℕ} {e r : List ℤ} {m : List ℕ} (give
 
   -- the noise on them
   numbersNoise-most : (j : ℕ) → j < p .d → natAbs (numbersNoise p e r j) ≤ mostProducts p
-  unfolding numbersNoise
+  unfolding numbersNoise multiplierCount
   numbersNoise-most j inside =
-      let given-range = accepted-in-range in
       parts-most p _ (λ i h.
-      productℤ-most (p .k + 1) (vector (p .k + 1) r i) (vector (p .d + p .k) e i) (λ l. multiplierBound p ((p .k + 1) * i + l)) (p .eta)
-      (λ l k. multiplier-most p given-range i h l k) (vector-size p r e (given .multipliers-length) i h) (p .k + j) (omega arith)
-      (λ l k. error-most p given-range i h (p .k + j - l) (omega arith)))
+      productℤ-most (p .k + 1) (vector (p .k + 1) r i) (vector (p .d + p .k) e i) (vectorBound p i) (p .eta)
+      (λ l k. multiplier-most p accepted-in-range i l h k) (vector-length (p .k + 1) (p .t) i r (given .multipliers-length) h) (p .k + j) (omega arith)
+      (λ l k. error-most p accepted-in-range i (p .k + j - l) h (omega arith)))
 
   -- so it is within the ceiling
   numbers-within : (j : ℕ) → j < p .d → natAbs (numbersNoise p e r j) ≤ ceiling p

@@ -2,7 +2,7 @@
 -- Assumes nothing.
 use mathlib.Core.Path.{_≡_, sym, ap, _∙_}
 use mathlib.Core.List.{List, reverse}
-use Prim.Native.Nat.{ℕ, _+_, _-_, _*_, _<_}
+use Prim.Native.Nat.{ℕ, _+_, _-_, _<_}
 use native.Mathlib.Omega.{arith}
 use lib.IntN.{ℤ, _+ℤ_}
 use lib.ListN.{length, length-reverse}
@@ -10,11 +10,10 @@ use Rattle.maths.specs.Integer.{productℤ, correlationℤ}
 use Rattle.maths.proofs.Integer.{sumℤ-cong}
 use Rattle.maths.proofs.Reverse.{correlationℤ-middle}
 use Rattle.calls.specs.Region.{vector}
-use Rattle.calls.proofs.Region.{region-length, vector-joined}
+use Rattle.calls.proofs.Region.{vector-length, vector-joined}
 use Rattle.sets.specs.declared.Parameters.{Parameters}
 use Rattle.sets.specs.Derived.{multiplierCount}
 use Rattle.numbers.specs.Noise.{numbersNoise}
-use Rattle.numbers.proofs.Laws.{vector-fits}
 use Rattle.samplers.specs.Seeded.{multipliersDrawn}
 use Rattle.samplers.proofs.Laws.{multipliersDrawn-length}
 use Rattle.scheme.specs.Encryption.{secretSeed, publicKey, errors, encryptedNumbers, ciphertext, cipherSecond}
@@ -23,9 +22,9 @@ use Rattle.claim.specs.Reversed.{reversedVectors}
 
 module _ (p : Parameters) (r e : List ℤ) (size : length r ≡ multiplierCount p) where
   -- vector i has k + 1 numbers
-  pub vector-size : (i : ℕ) → i < p .t → length (vector (p .k + 1) r i) ≡ p .k + 1
+  vector-size : (i : ℕ) → i < p .t → length (vector (p .k + 1) r i) ≡ p .k + 1
   unfolding multiplierCount
-  vector-size i h = region-length r ((p .k + 1) * i) (p .k + 1) (omega (arith, vector-fits (p .k + 1) (p .t) i h, size))
+  vector-size i h = vector-length (p .k + 1) (p .t) i r size h
 
   -- vector i of the reversed multipliers
   reversed-at : (i : ℕ) → i < p .t → vector (p .k + 1) (reversedVectors (p .t) (p .k + 1) r) i ≡ reverse (vector (p .k + 1) r i)

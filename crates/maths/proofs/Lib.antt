@@ -1,4 +1,5 @@
 -- Laws of the definitions of specs/, for any modulus and any length.
+pub mod Tests
 pub mod Vector
 pub mod Sum
 pub mod Congruence

@@ -2,7 +2,7 @@
 -- Assumes nothing.
 use mathlib.Core.Path.{_≡_, refl, sym, ap, _∙_}
 use mathlib.Core.Logic.{_≢_}
-use mathlib.Core.Bool.{Bool, true, false, not, _&&_}
+use mathlib.Core.Bool.{true, not, _&&_}
 use mathlib.Core.List.{List, [], _∷_}
 use Prim.Native.Nat.{ℕ, zero, suc, _+_, _-_, _*_, _/_, _%_, _^_, _≤_, _<_}
 use native.Mathlib.Nat.{pow-zero, pow-suc, pow-succ', one-mul, mul-one, mod-eq-of-lt, mod-lt, le-of-suc-le-suc, le-mul-of-pos-right, sub-add-cancel}
@@ -14,6 +14,7 @@ use Rattle.maths.specs.Vector.{at}
 use Rattle.maths.specs.Congruence.{Mod}
 use Rattle.maths.specs.Prime.{Prime}
 use Rattle.maths.specs.Root.{RootOfOrder, powerTable, inverseRoot, inverseSize, continues, isPowerTable, firstOne, hasOrder}
+use Rattle.maths.proofs.Tests.{both-true}
 use Rattle.maths.proofs.Vector.{tabulate-length, tabulate-at, tabulate-unique}
 use Rattle.maths.proofs.Congruence.{mod-eq, mod-trans, mod-mul, mod-refl, mod-remainder, mod-add-multiple}
 
@@ -26,11 +27,6 @@ powerTable-length q w D = tabulate-length D _
 pub powerTable-at : (q w D i : ℕ) → i < D → at (powerTable q w D) i ≡ w ^ i % q
 unfolding powerTable
 powerTable-at q w D i h = tabulate-at D _ i h
-
--- both parts of a test hold where the test does
-both : (a b : Bool) → (a && b) ≡ true → (a ≡ true) × (b ≡ true)
-both true b e = (refl, e)
-both false b e = let z : _≡_ {A = ℕ} 0 1 = cc in absurd (omega arith)
 
 -- one more factor w: what continues from x · w modulo q is what comes one place later from x
 shift : (q w x y k : ℕ) → y ≡ x * w % q → y * w ^ k % q ≡ x * w ^ suc k % q
@@ -45,10 +41,10 @@ module _ (q w : ℕ) where
   unfolding continues
   continues-at x [] e k h = absurd (omega arith)
   continues-at x (y ∷ ys) e zero h =
-      let s = both (eqb y (x * w % q)) (continues q w y ys) e in
+      let s = both-true (eqb y (x * w % q)) (continues q w y ys) e in
       eqb-true y (x * w % q) (s .0) ∙ rw (pow-suc, pow-zero, one-mul)
   continues-at x (y ∷ ys) e (suc k) h =
-      let s = both (eqb y (x * w % q)) (continues q w y ys) e in
+      let s = both-true (eqb y (x * w % q)) (continues q w y ys) e in
       continues-at y ys (s .1) k (le-of-suc-le-suc h) ∙ shift q w x y (suc k) (eqb-true y (x * w % q) (s .0))
 
 -- what the test of a table tells: it begins with 1, has D entries and continues from 1
@@ -59,8 +55,8 @@ record Passed (q w D : ℕ) (ys : List ℕ) : Type 0 where
 passed : (q w D y : ℕ) (ys : List ℕ) → isPowerTable q w D (y ∷ ys) ≡ true → (y ≡ 1) × Passed q w D ys
 unfolding isPowerTable
 passed q w D y ys e =
-    let s = both (eqb y 1) (eqb (suc (length ys)) D && continues q w y ys) e in
-    let t = both (eqb (suc (length ys)) D) (continues q w y ys) (s .1) in
+    let s = both-true (eqb y 1) (eqb (suc (length ys)) D && continues q w y ys) e in
+    let t = both-true (eqb (suc (length ys)) D) (continues q w y ys) (s .1) in
     let first : y ≡ 1 = eqb-true y 1 (s .0) in
     (first, record { size = eqb-true (suc (length ys)) D (t .0); rest = rw first at (t .1) })
 
@@ -97,11 +93,11 @@ module _ (q w : ℕ) where
   unfolding firstOne
   first-none x zero e low k h = absurd (omega arith)
   first-none x (suc n) e low zero h =
-      let s = both (not (eqb x 1)) (firstOne q w (x * w % q) n) e in
+      let s = both-true (not (eqb x 1)) (firstOne q w (x * w % q) n) e in
       let same : x * w ^ 0 % q ≡ x = rw (pow-zero, mul-one) (mod-eq-of-lt low) in
       λ one. eqb-false x 1 (not-true (eqb x 1) (s .0)) (sym same ∙ one)
   first-none x (suc n) e low (suc k) h =
-      let s = both (not (eqb x 1)) (firstOne q w (x * w % q) n) e in
+      let s = both-true (not (eqb x 1)) (firstOne q w (x * w % q) n) e in
       λ one. first-none (x * w % q) n (s .1) (mod-lt (x * w) (omega arith)) k (le-of-suc-le-suc h) (shift q w x (x * w % q) k refl ∙ one)
 
   -- and the power after them is 1
@@ -109,7 +105,7 @@ module _ (q w : ℕ) where
   unfolding firstOne
   first-one x zero e low = rw (pow-zero, mul-one) (mod-eq-of-lt low) ∙ eqb-true x 1 e
   first-one x (suc n) e low =
-      let s = both (not (eqb x 1)) (firstOne q w (x * w % q) n) e in
+      let s = both-true (not (eqb x 1)) (firstOne q w (x * w % q) n) e in
       sym (shift q w x (x * w % q) n refl) ∙ first-one (x * w % q) n (s .1) (mod-lt (x * w) (omega arith))
 
 -- a root that passes the test has the order D

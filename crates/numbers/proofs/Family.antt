@@ -2,22 +2,14 @@
 -- Assumes nothing.
 use mathlib.Core.Path.{_≡_}
 use mathlib.Core.List.{List}
-use Prim.Native.Nat.{ℕ, suc, _+_, _*_, _/_, _^_, _≤_, _<_}
-use native.Mathlib.Nat.{mul-suc, mul-comm, mul-le-mul-left, div-lt-iff-lt-mul}
+use Prim.Native.Nat.{ℕ, _+_, _*_, _/_, _^_, _≤_, _<_}
+use native.Mathlib.Nat.{div-lt-iff-lt-mul}
 use native.Mathlib.Omega.{arith}
 use lib.ListN.{length}
-use Rattle.calls.proofs.Region.{region-length, region-entry}
+use Rattle.calls.proofs.Region.{region-entry, vector-fits, vector-length}
 use Rattle.middle.specs.Operand.{Operand}
 use Rattle.calls.specs.Region.{vector}
 use Rattle.numbers.specs.Operands.{Family}
-
--- vector i of t vectors ends with them or before
-pub vector-fits : (n t i : ℕ) → i < t → n * i + n ≤ t * n
-vector-fits n t i h = rw (← mul-suc n i, mul-comm t n) (mul-le-mul-left {m = suc i} {n = t} n h)
-
--- vector i of t vectors has its length
-pub vector-length : {A : Type 0} (n t i : ℕ) (xs : List A) → length xs ≡ t * n → i < t → length (vector n xs i) ≡ n
-vector-length n t i xs size h = region-length xs (n * i) n (rw size (vector-fits n t i h))
 
 -- place l of t vectors of w numbers is in one of them
 pub vector-index : (w t l : ℕ) → 0 < w → l < t * w → l / w < t

@@ -19,7 +19,7 @@ use Rattle.maths.proofs.Integer.{residue-pos}
 use Rattle.calls.specs.Outcome.{Outcome, accepted}
 use Rattle.calls.specs.Checks.{allOf, refuseFirst}
 use Rattle.calls.proofs.Checks.{refuseFirst-accepted, passing-all}
-use Rattle.calls.proofs.Region.{region-entry, region-part, joined-length, vector-joined, joined-each}
+use Rattle.calls.proofs.Region.{region-entry, region-part, vector-length, joined-length, vector-joined, joined-each}
 use Rattle.sets.specs.declared.Parameters.{Parameters}
 use Rattle.sets.specs.Table.{setOf, lastSet}
 use Rattle.sets.specs.Derived.{errorCount}
@@ -27,7 +27,7 @@ use Rattle.middle.proofs.OpenCall.{opening-passed}
 use Rattle.calls.specs.Region.{vector}
 use Rattle.numbers.specs.Scheme.{residues, keyPart, key}
 use Rattle.numbers.specs.Calls.{isError, keyShape, keyRange, keyAnswer}
-use Rattle.numbers.proofs.Family.{vector-length, vector-index}
+use Rattle.numbers.proofs.Family.{vector-index}
 
 -- the residue at a place
 pub residues-at : (q : ℕ) (zs : List ℤ) (i : ℕ) → at (residues q zs) i ≡ residue q (getD zs i (pos 0))

@@ -2,7 +2,6 @@
 -- and nothing else of its proofs.
 -- Assumes nothing.
 pub use Rattle.numbers.proofs.BitLaws.{roundedBit-bench, roundedBit-centred}
-pub use Rattle.numbers.proofs.Family.{vector-fits}
 pub use Rattle.numbers.proofs.KeyLaws.{residues-at, key-length, key-vector, keyPart-at, key-below, key-numbers}
 pub use Rattle.numbers.proofs.ReadingLaws.{reading-length, reading-at, opened-at, opened-below, three-slices, reading-numbers}
 pub use Rattle.numbers.proofs.SealingLaws.{firstPart-length, firstPart-at, firstPart-below, secondPart-length, secondPart-at, secondPart-below}

@@ -1,7 +1,7 @@
 -- Multipliers: the bound of a position as the code computes it, the two tests of a multiplier, and an accepted check (01, Sealing).
 -- Assumes nothing.
 use mathlib.Core.Path.{_≡_}
-use mathlib.Core.Bool.{Bool, true, false, _&&_}
+use mathlib.Core.Bool.{true, false}
 use mathlib.Core.List.{List}
 use Prim.Native.Nat.{ℕ, _+_, _*_, _%_, _^_, _≤_, _<_}
 use native.Mathlib.Nat.{one-mul, mod-eq-of-lt}
@@ -11,6 +11,7 @@ use lib.Dec.{leb}
 use lib.IntN.{ℤ, pos, natAbs}
 use lib.ListN.{length, getD}
 use lib.Pow.{pow-lt}
+use Rattle.maths.proofs.Tests.{both-true}
 use Rattle.calls.specs.Outcome.{Outcome, accepted}
 use Rattle.calls.specs.Checks.{refuseFirst}
 use Rattle.calls.proofs.Checks.{refuseFirst-accepted, passing-all}
@@ -40,11 +41,6 @@ pub multiplier-within : (p : Parameters) (position : ℕ) (z : ℤ) → leb (nat
     ≡ isMultiplier p position z
 multiplier-within p position z e = rw (le-leb 1 (natAbs z) (omega (arith, leb-false (natAbs z) 0 e)))
 
--- the second of two tests that hold
-second-true : (t u : Bool) → t && u ≡ true → u ≡ true
-second-true true u e = e
-second-true false u e = let z : _≡_ {A = ℕ} 0 1 = cc in absurd (omega arith)
-
 -- an accepted check of multipliers
 pub accepted-multipliers : (p : Parameters) → Rules p → (offset : ℕ) (rs : List ℤ) (after : Outcome) → refuseFirst (isMultiplier p) 0 offset rs after ≡ accepted
     → ((k : ℕ) → k < length rs → natAbs (getD rs k (pos 0)) < 2 ^ 24) × (after ≡ accepted)
@@ -54,7 +50,7 @@ accepted-multipliers p kept offset rs after e =
           let z = getD rs k (pos 0) in
           let bound = multiplierBound p (0 + k) in
           let within : natAbs z ≤ bound = leb-true (natAbs z) bound
-          (second-true (leb 1 (natAbs z)) (leb (natAbs z) bound) (passing-all (isMultiplier p) 0 rs (pos 0) .0 (both .0) k h)) in
+          (both-true (leb 1 (natAbs z)) (leb (natAbs z) bound) (passing-all (isMultiplier p) 0 rs (pos 0) .0 (both .0) k h) .1) in
           omega (arith, bound-small p kept (0 + k)),
       both .1,
     )

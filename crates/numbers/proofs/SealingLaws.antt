@@ -25,10 +25,10 @@ use Rattle.sets.specs.Table.{setOf, lastSet}
 use Rattle.sets.specs.Derived.{halfModulus, multiplierCount}
 use Rattle.middle.proofs.OpenCall.{opening-passed}
 use Rattle.calls.specs.Region.{vector}
+use Rattle.calls.proofs.Region.{vector-length}
 use Rattle.numbers.specs.Scheme.{residues, sumOfProducts, firstPart, sumOfMiddles, secondPart}
 use Rattle.numbers.specs.Operands.{Family}
 use Rattle.numbers.specs.Calls.{sealingShape, sealingRange, sealingAnswer}
-use Rattle.numbers.proofs.Family.{vector-length}
 use Rattle.numbers.proofs.KeyLaws.{residues-at}
 
 -- s is the sum of the first i of t terms modulo q

@@ -1,7 +1,7 @@
 -- Laws of the answers: the checks of the set one by one, what the checks of each call tell where they pass, and what decides the answer.
 -- Assumes nothing.
 use mathlib.Core.Path.{_≡_, refl, _∙_}
-use mathlib.Core.Bool.{Bool, true, false, not, _&&_, false≢true}
+use mathlib.Core.Bool.{Bool, true, false, not, _&&_}
 use mathlib.Core.List.{List}
 use Prim.Native.Nat.{ℕ, _≤_, _<_}
 use native.Mathlib.Omega.{arith}
@@ -10,6 +10,7 @@ use lib.Dec.{ltb, eqb}
 use lib.ListN.{length, replicate, length-replicate}
 use Rattle.calls.specs.Outcome.{Outcome, accepted, refused, refuse, andThen}
 use Rattle.maths.specs.Vector.{at}
+use Rattle.maths.proofs.Tests.{both-true}
 use Rattle.calls.specs.Checks.{passing, below}
 use Rattle.calls.proofs.Outcome.{accepted-refused, refuse-accepted, leaves-same}
 use Rattle.calls.proofs.Checks.{passing-all}
@@ -104,19 +105,14 @@ module _ (isOwn : ℕ → Bool) (set : ℕ) where
 pub both-fit : {a b : Bool} → a ≡ true → b ≡ true → a && b ≡ true
 both-fit f g = rw (f, g)
 
--- and only there
-both : (a b : Bool) → a && b ≡ true → (a ≡ true) × (b ≡ true)
-both true b e = (refl, e)
-both false b e = absurd (false≢true e)
-
 -- what the checks of key tell where they pass
 pub key-passed : (isOwn : ℕ → Bool) (set seed pk sk work : ℕ) → keyChecks isOwn set seed pk sk work ≡ accepted
     → Own isOwn set × (seed ≡ 32) × (pk ≡ publicKeyBytes (setOf set)) × (sk ≡ secretKeyBytes set) × (work ≡ workLength (setOf set))
 unfolding keyChecks
 key-passed isOwn set seed pk sk work e =
     let t = checks-passed isOwn set _ _ _ e in
-    let two = both (eqb seed 32 && publicFits set pk) (secretFits set sk) (t .1) in
-    let one = both (eqb seed 32) (publicFits set pk) (two .0) in
+    let two = both-true (eqb seed 32 && publicFits set pk) (secretFits set sk) (t .1) in
+    let one = both-true (eqb seed 32) (publicFits set pk) (two .0) in
     (t .0, eqb-true _ _ (one .0), eqb-true _ _ (one .1), eqb-true _ _ (two .1), eqb-true _ _ (t .3))
 
 -- those of encrypt and of encapsulate
@@ -125,8 +121,8 @@ pub encrypt-passed : (isOwn : ℕ → Bool) (set pk message other ct work : ℕ)
 unfolding encryptChecks
 encrypt-passed isOwn set pk message other ct work e =
     let t = checks-passed isOwn set _ _ _ e in
-    let two = both (publicFits set pk && eqb message 32) (eqb other 32) (t .1) in
-    let one = both (publicFits set pk) (eqb message 32) (two .0) in
+    let two = both-true (publicFits set pk && eqb message 32) (eqb other 32) (t .1) in
+    let one = both-true (publicFits set pk) (eqb message 32) (two .0) in
     (t .0, eqb-true _ _ (one .0), eqb-true _ _ (one .1), eqb-true _ _ (two .1), eqb-true _ _ (t .2), eqb-true _ _ (t .3))
 
 -- those of decrypt and of decapsulate
@@ -135,7 +131,7 @@ pub decrypt-passed : (isOwn : ℕ → Bool) (set sk ct given work : ℕ) → dec
 unfolding decryptChecks
 decrypt-passed isOwn set sk ct given work e =
     let t = checks-passed isOwn set _ _ _ e in
-    let one = both (secretFits set sk) (eqb given 32) (t .1) in
+    let one = both-true (secretFits set sk) (eqb given 32) (t .1) in
     (t .0, eqb-true _ _ (one .0), eqb-true _ _ (t .2), eqb-true _ _ (one .1), eqb-true _ _ (t .3))
 
 -- where the checks of a round trip pass, those of each of its calls do
@@ -147,11 +143,11 @@ module _ (isOwn : ℕ → Bool) (set seed message other given pk sk ct work : �
   unfolding keyChecks encryptChecks decryptChecks roundTripChecks
   round-trip-passed e =
       let t = checks-passed isOwn set _ _ _ e in
-      let five = both (eqb seed 32 && eqb message 32 && eqb other 32 && eqb given 32 && publicFits set pk) (secretFits set sk) (t .1) in
-      let four = both (eqb seed 32 && eqb message 32 && eqb other 32 && eqb given 32) (publicFits set pk) (five .0) in
-      let three = both (eqb seed 32 && eqb message 32 && eqb other 32) (eqb given 32) (four .0) in
-      let two = both (eqb seed 32 && eqb message 32) (eqb other 32) (three .0) in
-      let one = both (eqb seed 32) (eqb message 32) (two .0) in (
+      let five = both-true (eqb seed 32 && eqb message 32 && eqb other 32 && eqb given 32 && publicFits set pk) (secretFits set sk) (t .1) in
+      let four = both-true (eqb seed 32 && eqb message 32 && eqb other 32 && eqb given 32) (publicFits set pk) (five .0) in
+      let three = both-true (eqb seed 32 && eqb message 32 && eqb other 32) (eqb given 32) (four .0) in
+      let two = both-true (eqb seed 32 && eqb message 32) (eqb other 32) (three .0) in
+      let one = both-true (eqb seed 32) (eqb message 32) (two .0) in (
         checks-pass isOwn set _ _ _ (t .0) (both-fit (both-fit (one .0) (four .1)) (five .1)) refl (t .3),
         checks-pass isOwn set _ _ _ (t .0) (both-fit (both-fit (four .1) (one .1)) (two .1)) (t .2) (t .3),
         checks-pass isOwn set _ _ _ (t .0) (both-fit (five .1) (three .1)) (t .2) (t .3),

@@ -1,9 +1,9 @@
--- No size of noise exceeds the ceiling, whatever the key seed, the message and the sealing seed are, and none smaller would hold what packing can drop
--- (02, No. 5). Where a draw is refused the calls refuse; the laws here hold all the same.
+-- No size of noise exceeds the ceiling, whatever the key seed, the message and the sealing seed are, and 2^cmp − 1 is the largest size that packing can
+-- drop at one place (02, No. 5). The laws hold for refused draws too.
 -- Assumes nothing.
 use mathlib.Core.Path.{_≡_, ap, _∙_}
 use mathlib.Core.List.{List}
-use Prim.Native.Nat.{ℕ, _+_, _-_, _*_, _%_, _^_, _≤_, _<_}
+use Prim.Native.Nat.{ℕ, _+_, _-_, _%_, _^_, _≤_, _<_}
 use native.Mathlib.Nat.{mod-eq-of-lt}
 use native.Mathlib.Omega.{arith}
 use lib.IntN.{ℤ, pos, natAbs}
@@ -17,7 +17,7 @@ use Rattle.sets.specs.declared.Parameters.{Parameters}
 use Rattle.sets.specs.Derived.{multiplierBound}
 use Rattle.packing.proofs.Laws.{dropped-below}
 use Rattle.ceiling.specs.Ceiling.{mostProducts, mostDropped, ceiling}
-use Rattle.ceiling.proofs.Laws.{InRange, parts-most, multiplier-most, error-most}
+use Rattle.ceiling.proofs.Laws.{vectorBound, InRange, parts-most, multiplier-most, error-most}
 use Rattle.samplers.specs.Seeded.{multipliersDrawn, secretState}
 use Rattle.samplers.proofs.Laws.{errorsDrawn-most, multipliersDrawn-most}
 use Rattle.scheme.specs.Encryption.{secretSeed, publicKey, errors, encryptedNumbers, ciphertext, cipherSecond}
@@ -34,8 +34,8 @@ productNoise-most : (p : Parameters) {r e : List ℤ} → InRange p r e → (j :
 unfolding productNoise
 productNoise-most p {r} {e} given j inside =
     parts-most p _ (λ i h.
-    correlationℤ-most (p .k + 1) (vector (p .k + 1) r i) (vector (p .d + p .k) e i) (λ l. multiplierBound p ((p .k + 1) * i + l)) (p .eta)
-    (λ l k. multiplier-most p given i h l k) j (λ l k. error-most p given i h (j + l) (omega arith)))
+    correlationℤ-most (p .k + 1) (vector (p .k + 1) r i) (vector (p .d + p .k) e i) (vectorBound p i) (p .eta)
+    (λ l k. multiplier-most p given i l h k) j (λ l k. error-most p given i (j + l) h (omega arith)))
 
 module _ {p : Parameters} (c : Conditions p) where
   -- the size of what packing drops
@@ -46,7 +46,7 @@ module _ {p : Parameters} (c : Conditions p) where
   unfolding mostDropped
   packing-most c2 size below j inside = omega (arith, packing-size c2 size below j inside, dropped-below (p .cmp) (at c2 j))
 
-  -- it is the largest
+  -- mostDropped is the largest
   pub largest-dropped : LargestDropped p (mostDropped p)
   unfolding mostDropped
   largest-dropped =

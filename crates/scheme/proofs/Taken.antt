@@ -8,6 +8,7 @@ use Prim.Native.Nat.{ℕ, zero, suc, _+_, _<_}
 use native.Mathlib.Nat.{eq-or-lt-of-le, le-of-suc-le-suc}
 use native.Mathlib.Numerals.{add-one}
 use native.Mathlib.Omega.{arith}
+use Rattle.maths.proofs.Tests.{both-true}
 use Rattle.draws.specs.Uniform.{Drawn, taken, ended, exhausted, numbers}
 use Rattle.scheme.specs.Answers.{isTaken, allTaken}
 
@@ -23,11 +24,6 @@ unfolding numbers
 taken-numbers (taken xs) e = refl
 taken-numbers (ended xs run) e = let z : _≡_ {A = ℕ} 0 1 = cc in absurd (omega arith)
 taken-numbers (exhausted i) e = let z : _≡_ {A = ℕ} 0 1 = cc in absurd (omega arith)
-
--- both tests hold
-pub both-true : (a b : Bool) → (a && b) ≡ true → (a ≡ true) × (b ≡ true)
-both-true true b e = (refl, e)
-both-true false b e = let z : _≡_ {A = ℕ} 0 1 = cc in absurd (omega arith)
 
 -- a test that fails on the right
 and-false : (a : Bool) → (a && false) ≡ false

@@ -1,7 +1,7 @@
 -- The numbers of an input in range are numbers that key, sealing and reading take (01, The bench sheet).
 -- Assumes nothing.
 use mathlib.Core.Path.{_≡_, refl, sym, ap, _∙_}
-use mathlib.Core.Bool.{Bool, true, false, _&&_}
+use mathlib.Core.Bool.{true, _&&_}
 use mathlib.Core.List.{List, map}
 use Prim.Native.Nat.{ℕ, _+_, _-_, _*_, _≤_, _<_}
 use native.Mathlib.Nat.{zero-add}
@@ -11,6 +11,7 @@ use lib.Dec.{leb}
 use lib.IntN.{ℤ, pos, natAbs}
 use lib.ListN.{length, getD, length-map, List·getD-map}
 use Rattle.maths.specs.Vector.{at}
+use Rattle.maths.proofs.Tests.{both-true}
 use Rattle.calls.specs.Outcome.{accepted}
 use Rattle.calls.specs.Region.{region}
 use Rattle.calls.proofs.Checks.{refuseFirst-accepted, passing-all}
@@ -66,11 +67,6 @@ bench-residues = refl
 bench-size : bench .eta ≡ 1
 unfolding none table setOf
 bench-size = refl
-
--- the second of two tests that hold
-second-true : (t u : Bool) → t && u ≡ true → u ≡ true
-second-true true u e = e
-second-true false u e = let z : _≡_ {A = ℕ} 0 1 = cc in absurd (omega arith)
 
 module _ (input : List ℕ) (size : length input ≡ 14) (answer : benchAnswer input ≡ accepted) where
   -- each byte is in range
@@ -148,5 +144,5 @@ module _ (input : List ℕ) (size : length input ≡ 14) (answer : benchAnswer i
         multipliers-length = multipliers-size;
         multipliers = λ i h.
             let size = natAbs (getD (benchMultipliers input) i (pos 0)) in
-            leb-true size 2 (second-true (leb 1 size) (leb size 2) (multiplier-at i h));
+            leb-true size 2 (both-true (leb 1 size) (leb size 2) (multiplier-at i h) .1);
       }

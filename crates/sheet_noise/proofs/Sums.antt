@@ -2,7 +2,7 @@
 -- Assumes nothing.
 use mathlib.Core.Path.{_≡_, refl, sym, ap, ap₂, _∙_}
 use mathlib.Core.List.{List}
-use Prim.Native.Nat.{ℕ, zero, suc, _+_, _-_, _*_, _%_, _^_, _≤_, _<_}
+use Prim.Native.Nat.{ℕ, suc, _+_, _-_, _*_, _%_, _^_, _≤_, _<_}
 use native.Mathlib.Nat.{mod-lt, mul-le-mul-left}
 use native.Mathlib.Omega.{arith}
 use lib.IntN.{ℤ, _+ℤ_, _*ℤ_, natAbs}
@@ -14,6 +14,7 @@ use Rattle.maths.specs.Integer.{sumℤ, centre}
 use Rattle.maths.proofs.Sum.{sum-const}
 use Rattle.maths.proofs.Integer.{natAbs-centre, sumℤ-none, sumℤ-last}
 use Rattle.maths.proofs.Size.{sumℤ-most, natAbs-*ℤ-most}
+use Rattle.calls.proofs.Region.{vector-fits}
 use Rattle.sets.specs.declared.Parameters.{Parameters}
 use Rattle.sets.specs.Rules.{Rules, ByteRules}
 use Rattle.sets.specs.Derived.{halfModulus, multiplierCount, errorDrawBytes, errorCount}
@@ -115,9 +116,12 @@ module _ (p : Parameters) (kept : Rules p) (bytes : ByteRules p) where
   pub room : (i j : ℕ) → i < p .t → j < p .d → Room p i j
   unfolding errorCount multiplierCount
   room i j h l =
-      let one : (p .k + 1) * suc i ≤ (p .k + 1) * p .t = mul-le-mul-left (p .k + 1) h in
-      let other : (p .d + p .k) * suc i ≤ (p .d + p .k) * p .t = mul-le-mul-left (p .d + p .k) h in
-      record { multipliers-in = omega arith; errors-in = omega arith; few-multipliers = kept .most-multipliers; few-errors = errors-few }
+      record {
+        multipliers-in = vector-fits (p .k + 1) (p .t) i h;
+        errors-in = omega (arith, vector-fits (p .d + p .k) (p .t) i h);
+        few-multipliers = kept .most-multipliers;
+        few-errors = errors-few;
+      }
 
   module _ (r e : List ℕ) (rs : Residues (p .q) r) (es : Residues (p .q) e) where
     -- residues, by half the modulus

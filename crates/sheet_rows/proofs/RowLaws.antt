@@ -2,7 +2,7 @@
 -- Assumes nothing.
 use mathlib.Core.Path.{_≡_, refl, sym, _∙_}
 use mathlib.Core.List.{List}
-use Prim.Native.Nat.{ℕ, zero, suc, _+_, _-_, _^_, _≤_, _<_}
+use Prim.Native.Nat.{ℕ, zero, suc, _-_, _^_, _≤_, _<_}
 use native.Mathlib.Omega.{arith}
 use borrow.Author.Tests.{ne-eqb}
 use lib.IntN.{ℤ, pos, natAbs}
@@ -48,7 +48,7 @@ unfolding messageOf
 message-part input = region-part input 65 32 97 refl
 
 module _ (input : List ℕ) (size : length input ≡ 14) (answer : benchAnswer input ≡ accepted) where
-  -- no noise of set 0 exceeds the ceiling
+  -- the noise of set 0 is small, since it does not exceed the ceiling
   bench-most : (j : ℕ) → j < 2 → natAbs (numbersNoise bench (benchErrors input) (benchMultipliers input) j) < 2 ^ 62
   bench-most j h =
       let within = within-ceiling 0 (benchHanded input) (omega arith) tt (bench-drawn input size answer) j (omega (arith, bench-message)) in

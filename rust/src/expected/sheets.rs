@@ -1,5 +1,6 @@
 //! The noise sheet in run_scheme, and its input in noisesheet.
 
+use super::known::bytes;
 use super::report::{byte_sum, changed, number_sum, pattern};
 use super::store::{Command, Store};
 use crate::arithmetic::{bit, middle_product};
@@ -9,11 +10,10 @@ use crate::sheet::sheet;
 /// 01's Bench input.
 pub const BENCH: [u8; 14] = [0, 3, 5, 1, 2, 3, 4, 1, 0, 255, 1, 254, 1, 0];
 
-/// The inputs of the known sheets of an independent model.
+/// The inputs of the known sheets of an independent model, but 01's, which stands among those of set 0.
 fn known_inputs() -> Vec<Vec<u8>> {
     let lines = include_str!("../../vectors/sheets.txt").lines();
-    let hex = lines.filter(|line| !line.is_empty() && line.bytes().all(|byte| byte.is_ascii_hexdigit()));
-    hex.map(|line| (0..line.len() / 2).map(|i| u8::from_str_radix(&line[2 * i..2 * i + 2], 16).unwrap()).collect()).collect()
+    lines.filter(|line| !line.is_empty() && line.bytes().all(|byte| byte.is_ascii_hexdigit())).map(bytes).filter(|input| *input != BENCH).collect()
 }
 
 /// 01's Bench input with one byte changed.

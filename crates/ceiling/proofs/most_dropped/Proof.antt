@@ -1,4 +1,4 @@
--- There is a number of cmp bits, so that 1 can be subtracted.
+-- 2^cmp is at least 1, so that 1 can be subtracted.
 -- Assumes nothing.
 use mathlib.Core.Path.{ap}
 use Prim.Native.Nat.{ℕ, _-_}
@@ -20,4 +20,4 @@ unfolding mostDropped
 returns c = ap (λ (n : ℕ). n - 1) (c .power .ensures)
 
 pub most-dropped-spec : {M : Type 1} → statement M
-most-dropped-spec = tie.close (tie.spec power-requires sub-result returns)
+most-dropped-spec = tie.close (tie.spec power-requires (λ c. search needs) sub-result returns)

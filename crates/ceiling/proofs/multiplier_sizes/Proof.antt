@@ -64,8 +64,10 @@ multiplier-sizes-spec =
     (λ c κs. search needs)
     sub-others
     power-requires
+    (λ c. search needs)
     mul-result
     power-requires-2
+    (λ c. search needs)
     mul-result-2
     add-result
     returns)
