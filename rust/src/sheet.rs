@@ -86,7 +86,7 @@ fn bench_rows(s: &Set, input: &[u8]) -> Result<Vec<Row>, Refusal> {
 /// The sheet of an input, or the line of its refusal.
 pub fn sheet(input: &[u8]) -> String {
     match rows(input) {
-        Ok((s, rows)) => text(&s, rows),
+        Ok((s, rows)) => text(rows, ceiling(&s), s.half()),
         Err(refused) => format!("refused {} {}\n", refused.number, refused.place),
     }
 }
@@ -108,19 +108,25 @@ fn ceiling(s: &Set) -> u64 {
     s.eta as u64 * sizes + (1 << s.dropped_bits) - 1
 }
 
-fn text(s: &Set, mut rows: Vec<Row>) -> String {
-    rows.sort_by_key(|row| (-row.noise.abs(), row.place));
+/// The sheet of a sealing with this noise; all bits, the ceiling and the half modulus are 0.
+pub fn made_sheet(noise: &[i64]) -> String {
+    text(noise.iter().enumerate().map(|(place, &noise)| Row { place, noise, sent: 0, read: 0 }).collect(), 0, 0)
+}
+
+/// The rows with the largest size first, of equal sizes the negative ones, of equal noise the lower place.
+fn text(mut rows: Vec<Row>, ceiling: u64, half: u64) -> String {
+    rows.sort_by_key(|row| (-row.noise.abs(), row.noise, row.place));
     let mut sheet = String::from("place noise sent read\n");
     for row in rows.iter().take(10) {
         writeln!(sheet, "{} {} {} {}", row.place, row.noise, row.sent, row.read).unwrap();
     }
-    writeln!(sheet, "ceiling {} half {}", ceiling(s), s.half()).unwrap();
+    writeln!(sheet, "ceiling {ceiling} half {half}").unwrap();
     sheet
 }
 
 #[cfg(test)]
 mod tests {
-    use super::{ceiling, noise, sheet};
+    use super::{ceiling, made_sheet, noise, sheet};
     use crate::expected::known::bytes;
     use crate::parameters::set;
     use crate::scheme::{key, sealed_numbers};
@@ -138,6 +144,23 @@ mod tests {
         assert_eq!(sheet(&[0; 13]), "refused 2 0\n");
         assert_eq!(sheet(&[0, 3, 17, 1, 2, 3, 4, 1, 0, 255, 1, 254, 1, 0]), "refused 3 2\n");
         assert_eq!(sheet(&[0, 3, 5, 1, 2, 3, 4, 1, 0, 255, 0, 254, 1, 0]), "refused 3 10\n");
+    }
+
+    /// Of rows of one size the negative ones come first, then the lower place: 02, No. 6.
+    #[test]
+    fn negative_noise_first() {
+        let rows = "place noise sent read\n1 -3 0 0\n3 -3 0 0\n0 3 0 0\n2 3 0 0\nceiling 0 half 0\n";
+        assert_eq!(made_sheet(&[3, -3, 3, -3]), rows);
+        let bench = |errors: [u8; 3]| sheet(&[&[0, 3, 5, 1, 2, 3, 4], &errors[..], &[2, 254, 0, 0]].concat());
+        assert!(bench([1, 255, 1]).starts_with("place noise sent read\n0 -4 0 0\n1 4 0 "));
+        assert!(bench([255, 1, 255]).starts_with("place noise sent read\n1 -4 0 0\n0 4 0 "));
+    }
+
+    /// Of the tenth and the eleventh row, of one size, the negative one is shown.
+    #[test]
+    fn the_negative_one_of_two_is_shown() {
+        let shown = made_sheet(&[1, 11, 10, 9, 8, 7, 6, 5, 4, 3, -1]);
+        assert!(shown.ends_with("\n10 -1 0 0\nceiling 0 half 0\n") && !shown.contains("\n0 1 "));
     }
 
     #[test]

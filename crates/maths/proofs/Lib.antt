@@ -15,6 +15,7 @@ pub mod Radix
 pub mod Fourfold
 pub mod Transform
 pub mod Integer
+pub mod SignedWord
 pub mod Size
 pub mod Reverse
 pub mod Rounding

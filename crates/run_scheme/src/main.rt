@@ -1,6 +1,7 @@
 // Runs a script of calls of the encryption scheme, of the key exchange and of the noise sheet. Standard input holds the script, which the Rust comparison
 // writes beside what must be printed.
 mod inner;
+mod made;
 mod patterns;
 mod schemes;
 mod sheets;
@@ -19,6 +20,7 @@ fn show(line: Command, store: &[u8]) {
         17 => inner::print_unpacked(line, store),
         18 => sheets::print_sheet(line, store),
         19 => sheets::print_bound(line.one),
+        20 => made::print_made(store),
         _ => store::print(number, report::part(store, line.one, line.two)),
     }
 }

@@ -17,7 +17,8 @@ use Rattle.numbers.specs.Noise.{numbersNoise}
 use Rattle.draws.specs.Calls.{inTurn}
 use Rattle.sheet_bench.specs.Bench as bench
 use Rattle.sheet_text.specs.Decimal as decimal
-use Rattle.sheet_text.specs.Order.{shown, ordered, inserted, insert, before, sizeAt}
+use Rattle.sheet_order.specs.Sorting.{insertedBy, insertBy, byKey, higher, lower}
+use Rattle.sheet_order.specs.Order.{shown, ordered, before, sizeAt, negativeAt, negative}
 use Rattle.sheet_text.specs.Text.{header, row, rows, ceilingWord, halfWord, lastLine, sheetText, refusedWord, refusedText}
 use Rattle.ceiling.specs.Ceiling.{mostProducts, mostDropped, ceiling}
 use Rattle.sheet_parts.specs.Checks.{hasSheet, inputBytes, setByte, inputAnswer}
@@ -41,8 +42,8 @@ sheetOf-example :
 unfolding sheetOf sheetAnswer inputAnswer setByte hasSheet inputBytes rowsAnswer rowsText rowNoise rowSent rowRead ceiling mostProducts mostDropped
     halfModulus multiplierCount none table setOf bench.benchAnswer bench.benchFits bench.signed handedIn inTurn refuseFirst passing multiplierBound
     multiplierBits region numbersNoise productℤ sumℤ joined tabulate sum product middleProduct residue floorBit keyPart key sumOfProducts firstPart
-    sumOfMiddles secondPart opened roundedBit reading sheetText header rows row lastLine ceilingWord halfWord shown ordered inserted insert before
-    sizeAt decimal.signed decimal.decimal decimal.digits
+    sumOfMiddles secondPart opened roundedBit reading sheetText header rows row lastLine ceilingWord halfWord shown ordered insertedBy insertBy before
+    byKey higher lower sizeAt negativeAt negative decimal.signed decimal.decimal decimal.digits
 sheetOf-example = refl
 
 -- refused 2 0, for an empty input

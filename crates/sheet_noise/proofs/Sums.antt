@@ -20,7 +20,7 @@ use Rattle.sets.specs.Rules.{Rules, ByteRules}
 use Rattle.sets.specs.Derived.{halfModulus, multiplierCount, errorDrawBytes, errorCount}
 use Rattle.packing.specs.Dropped.{chop}
 use Rattle.sheet_noise.specs.Centred.{Residues, centredTerm, centredCorrelation, centredPart, centredProduct, centredDropped}
-use Rattle.sheet_noise.proofs.Words.{stored}
+use Rattle.maths.proofs.SignedWord.{stored}
 
 -- a number with its low bits cleared is no larger
 pub chop-most : (cmp x : ℕ) → chop cmp x ≤ x

@@ -23,8 +23,8 @@ use Rattle.scheme.specs.Answers.{keyDraws}
 use Rattle.claim.proofs.Ceiling.{within-ceiling}
 use Rattle.sheet_bench.specs.Bench.{bench, benchHanded, benchSecret, benchErrors, benchMultipliers, benchMessage, benchAnswer, benchNoise, benchRead}
 use Rattle.sheet_bench.proofs.Numbers.{bench-message, bench-drawn}
-use Rattle.sheet_text.specs.Written.{Sizes}
-use Rattle.sheet_text.proofs.OrderLaws.{sizes-small}
+use Rattle.sheet_order.specs.Order.{Sizes}
+use Rattle.sheet_order.proofs.Laws.{sizes-small}
 use Rattle.sheet_parts.specs.Checks.{inputBytes}
 use Rattle.sheet_rows.specs.Input.{keySeedOf, sealingSeedOf, messageOf, handedIn, rowNoise, rowSent, rowRead, rowsAnswer}
 use Rattle.sheet_rows.specs.Rows.{seededNoise, seededSent, seededRead, Rows, SeededRows, InputRows}

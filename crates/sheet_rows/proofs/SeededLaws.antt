@@ -16,7 +16,7 @@ use Rattle.scheme.specs.Bits.{messageRead}
 use Rattle.scheme.specs.Answers.{keyDraws, encryptDraws, secretDraw}
 use Rattle.scheme.specs.Conditions.{Conditions}
 use Rattle.claim.proofs.Draws.{sealing-drawn, secret-drawn}
-use Rattle.sheet_text.proofs.OrderLaws.{sizes-small}
+use Rattle.sheet_order.proofs.Laws.{sizes-small}
 use Rattle.sheet_rows.specs.Rows.{seededNoise, seededSent, seededRead, SeededRows}
 
 -- sealing and reading accept what the key gives, so that the last step leaves the message read

@@ -9,7 +9,7 @@ use Rattle.packing.specs.Message.{messageBits}
 use Rattle.draws.specs.Calls.{inTurn}
 use Rattle.scheme.specs.Noise.{noise}
 use Rattle.scheme.specs.Bits.{messageRead}
-use Rattle.sheet_text.specs.Written.{Sizes}
+use Rattle.sheet_order.specs.Order.{Sizes}
 use Rattle.sheet_rows.specs.Input.{rowNoise, rowSent, rowRead}
 
 -- the rows of an encryption set, from a key seed, a message and a sealing seed: the noise of every place, the bits sent, and the bits that decrypt reads

@@ -8,12 +8,12 @@ use native.Mathlib.Omega.{arith}
 use lib.IntN.{ℤ, pos}
 use lib.ListN.{length, getD, take, drop, length-append, take-append-drop}
 use lib.Seq.{take-suc}
-use Rattle.sheet_text.specs.Order as order
-use Rattle.sheet_text.specs.Order.{shown}
+use Rattle.sheet_order.specs.Order as order
 use Rattle.sheet_text.specs.Text.{header, row, rows, lastLine, ceilingWord, halfWord, sheetText, refusedText, refusedWord}
-use Rattle.sheet_text.specs.Written.{Sizes, Places}
+use Rattle.sheet_order.specs.Sorting.{Places}
+use Rattle.sheet_order.specs.Order.{shown, Sizes}
 use Rattle.sheet_text.proofs.DecimalLaws.{decimal-length, signed-length}
-use Rattle.sheet_text.proofs.OrderLaws.{places-rest, places-within, shown-below, shown-length}
+use Rattle.sheet_order.proofs.Laws.{places-rest, places-within, shown-below, shown-length}
 
 module _ (noise : List ℤ) (sent read : List ℕ) where
   -- the row of one place

@@ -1,4 +1,3 @@
 pub mod Decimal
-pub mod Order
 pub mod Text
 pub mod Written

@@ -6,7 +6,8 @@ use Prim.Native.Nat.{ℕ}
 use lib.IntN.{ℤ, pos, negsuc}
 use lib.ListN.{getD}
 use Rattle.sheet_text.specs.Decimal.{decimal, signed, digits}
-use Rattle.sheet_text.specs.Order.{shown, ordered, inserted, insert, before, sizeAt}
+use Rattle.sheet_order.specs.Sorting.{insertedBy, insertBy, byKey, higher, lower}
+use Rattle.sheet_order.specs.Order.{shown, ordered, before, sizeAt, negativeAt, negative}
 
 -- what ends each number of a line: a space, or after the last one a new line
 abbrev pub space : List ℕ
@@ -68,7 +69,8 @@ sheetText-example :
     48 ∷ 32 ∷ 45 ∷ 50 ∷ 32 ∷ 49 ∷ 32 ∷ 49 ∷ 10 ∷
     49 ∷ 32 ∷ 45 ∷ 49 ∷ 32 ∷ 48 ∷ 32 ∷ 48 ∷ 10 ∷
     99 ∷ 101 ∷ 105 ∷ 108 ∷ 105 ∷ 110 ∷ 103 ∷ 32 ∷ 52 ∷ 32 ∷ 104 ∷ 97 ∷ 108 ∷ 102 ∷ 32 ∷ 56 ∷ 10 ∷ []
-unfolding sheetText header rows row lastLine ceilingWord halfWord shown ordered inserted insert before sizeAt signed decimal digits
+unfolding sheetText header rows row lastLine ceilingWord halfWord shown ordered insertedBy insertBy before byKey higher lower sizeAt
+    negativeAt negative signed decimal digits
 sheetText-example = refl
 
 -- refused 2 0

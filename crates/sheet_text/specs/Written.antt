@@ -2,11 +2,11 @@
 -- Assumes nothing.
 use mathlib.Core.Path.{_≡_}
 use mathlib.Core.List.{List}
-use Prim.Native.Nat.{ℕ, _+_, _≤_, _<_, _^_}
+use Prim.Native.Nat.{ℕ, _+_, _≤_}
 use lib.IntN.{ℤ}
-use lib.ListN.{length, getD}
+use lib.ListN.{length}
 use Rattle.calls.specs.Region.{over}
-use Rattle.sheet_text.specs.Order.{sizeAt}
+use Rattle.sheet_order.specs.Order.{Sizes}
 
 -- new is old with the text in place from at on, and next is the place after it
 pub record Written (old : List ℕ) (at : ℕ) (text new : List ℕ) (next : ℕ) : Type 0 where
@@ -14,14 +14,6 @@ pub record Written (old : List ℕ) (at : ℕ) (text new : List ℕ) (next : ℕ
   pub after : next ≡ at + length text
   pub kept-length : length new ≡ length old
   pub written : new ≡ over old at text
-
--- every size of noise is below 2^62
-pub record Sizes (noise : List ℤ) : Type 0 where
-  pub small : (place : ℕ) → sizeAt noise place < 2 ^ 62
-
--- each of these places is below n
-pub record Places (places : List ℕ) (n : ℕ) : Type 0 where
-  pub below : (k : ℕ) → k < length places → getD places k 0 < n
 
 -- noise, bits sent and bits read of one sealing
 pub record Sealing (noise : List ℤ) (sent read : List ℕ) : Type 0 where

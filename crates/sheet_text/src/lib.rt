@@ -1,6 +1,5 @@
 // The text of the bench sheet, from the noise and the bits of a sealing (01, The bench sheet), and the text of a refusal.
 mod append;
-mod order;
 mod rows;
 
 ghost use mathlib.Core.Path.{_≡_};

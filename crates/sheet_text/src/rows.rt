@@ -3,13 +3,14 @@ ghost use Prim.Native.Nat.{_+_, _≤_, _<_, _^_};
 ghost use lib.IntN.{natAbs};
 ghost use lib.ListN.{length};
 ghost use Rattle.sheet_text.specs.Text.{row, rows, lastLine, sheetText};
-ghost use Rattle.sheet_text.specs.Written.{Written, Sealing, Places};
+ghost use Rattle.sheet_text.specs.Written.{Written, Sealing};
+ghost use Rattle.sheet_order.specs.Sorting.{Places};
 use crate::append::put_bytes;
 use crate::append::put_decimal;
 use crate::append::put_number;
 use crate::append::put_signed;
-use crate::order::order_places;
-use crate::order::shown_count;
+use sheet_order::order_places;
+use sheet_order::shown_count;
 
 // The row of a place.
 fn put_row(place: usize, noise: i64, sent: u32, read: u32, at: usize, out: &mut [u8]) -> usize

@@ -43,6 +43,7 @@ pub enum Command {
     Unpacked,
     Sheet,
     Bound,
+    MadeSheet,
 }
 
 pub struct Store {

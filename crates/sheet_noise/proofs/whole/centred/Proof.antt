@@ -4,7 +4,7 @@ use mathlib.Core.Path.{sym, _∙_}
 use native.Mathlib.Omega.{arith}
 use Prim.Native.Nat.{_+_, _-_, _*_}
 use Rattle.maths.proofs.Integer.{centre-low, centre-high}
-use Rattle.sheet_noise.proofs.Words.{natural-is, opposite-fits, opposite-is}
+use Rattle.maths.proofs.SignedWord.{natural-is, opposite-fits, opposite-is}
 use borrow.Author.Needs.{needs}
 use Rattle.sheet_noise.proofs.whole.centred.Statement.{statement}
 use Rattle.sheet_noise.proofs.whole.centred.Tie as tie

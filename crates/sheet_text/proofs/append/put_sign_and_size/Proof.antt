@@ -7,7 +7,7 @@ use lib.IntN.{natAbs}
 use borrow.Author.Needs.{needs}
 use Rattle.sheet_text.specs.Decimal.{decimal}
 use Rattle.sheet_text.proofs.DecimalLaws.{signed-negative, signed-natural}
-use Rattle.sheet_text.proofs.SignedWord.{number-kept, stored-sign}
+use Rattle.maths.proofs.SignedWord.{number-kept, stored-sign}
 use Rattle.sheet_text.proofs.WrittenLaws.{written-append, written-as, room-front, room-next}
 use Rattle.sheet_text.proofs.append.put_sign_and_size.Statement.{statement}
 use Rattle.sheet_text.proofs.append.put_sign_and_size.Tie as tie

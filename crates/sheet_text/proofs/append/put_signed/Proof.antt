@@ -3,7 +3,7 @@
 use mathlib.Core.List.{[], _∷_}
 use borrow.Author.Needs.{needs}
 use Rattle.sheet_text.specs.Decimal.{signed}
-use Rattle.sheet_text.proofs.SignedWord.{number-kept}
+use Rattle.maths.proofs.SignedWord.{number-kept}
 use Rattle.sheet_text.proofs.WrittenLaws.{written-append, room-front, room-next}
 use Rattle.sheet_text.proofs.append.put_signed.Statement.{statement}
 use Rattle.sheet_text.proofs.append.put_signed.Tie as tie

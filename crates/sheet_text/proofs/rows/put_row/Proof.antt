@@ -5,7 +5,7 @@ use borrow.Author.Needs.{needs}
 use Rattle.sheet_text.specs.Decimal.{decimal, signed}
 use Rattle.sheet_text.specs.Text as text
 use Rattle.sheet_text.specs.Text.{space, newline}
-use Rattle.sheet_text.proofs.SignedWord.{number-kept}
+use Rattle.maths.proofs.SignedWord.{number-kept}
 use Rattle.sheet_text.proofs.WrittenLaws.{written-append, room-front, room-next}
 use Rattle.sheet_text.proofs.rows.put_row.Statement.{statement}
 use Rattle.sheet_text.proofs.rows.put_row.Tie as tie

@@ -7,10 +7,10 @@ use lib.IntN.{pos}
 use lib.ListN.{length, getD, take}
 use lib.Seq.{take-all}
 use borrow.Author.Needs.{needs}
-use Rattle.sheet_text.specs.Order as order
+use Rattle.sheet_order.specs.Order as order
 use Rattle.sheet_text.specs.Text.{rows}
 use Rattle.sheet_text.specs.Written.{Written}
-use Rattle.sheet_text.proofs.SignedWord.{entry-kept}
+use Rattle.maths.proofs.SignedWord.{entry-kept}
 use Rattle.sheet_text.proofs.WrittenLaws.{written-none, written-append, written-as, room-next}
 use Rattle.sheet_text.proofs.TextLaws.{rowOf, rows-none, rows-more, rows-front}
 use Rattle.sheet_text.proofs.rows.put_rows.Statement.{statement}

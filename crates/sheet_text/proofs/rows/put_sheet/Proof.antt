@@ -7,10 +7,10 @@ use native.Mathlib.Nat.{sub-zero}
 use native.Mathlib.Omega.{arith}
 use lib.ListN.{take}
 use borrow.Author.Needs.{needs}
-use Rattle.sheet_text.specs.Order.{shown}
+use Rattle.sheet_order.specs.Order.{shown}
 use Rattle.sheet_text.specs.Text as text
 use Rattle.sheet_text.specs.Text.{header, rows, lastLine}
-use Rattle.sheet_text.proofs.OrderLaws.{shown-below, shown-front}
+use Rattle.sheet_order.proofs.Laws.{shown-below, shown-front}
 use Rattle.sheet_text.proofs.WrittenLaws.{written-append, room-front, room-next}
 use Rattle.sheet_text.proofs.rows.put_sheet.Statement.{statement}
 use Rattle.sheet_text.proofs.rows.put_sheet.Tie as tie
