@@ -24,7 +24,7 @@ pub extern "C" fn titanium_secret_key_bytes(set: usize) -> usize
     if sets::LAST < set {
         return 0;
     }
-    sets::derived::secret_key_bytes(set)
+    sets::derived::secret_key_bytes(sets::parameters_of(set))
 }
 
 // Bytes of a ciphertext.
@@ -35,7 +35,7 @@ pub extern "C" fn titanium_ciphertext_bytes(set: usize) -> usize
     if sets::LAST < set {
         return 0;
     }
-    sets::derived::ciphertext_bytes(set)
+    sets::derived::ciphertext_bytes(sets::parameters_of(set))
 }
 
 // Numbers of the work slice.

@@ -24,10 +24,10 @@ use Rattle.cca_bytes.proofs.Laws.{both-over}
 use Rattle.cca_steps.specs.Steps.{innerDraw, keyOfMessage}
 
 -- algorithm 29: the inner seed, the keys
-pub inner-made : {p q : Parameters} (seed expanded : List ℕ) (m : ℕ) → p ≡ q → m ≡ 64 → expanded ≡ output p (initial seed) m .bytes
-    → take 32 expanded ≡ innerSeed q seed
+pub inner-made : (p : Parameters) (seed expanded : List ℕ) (m : ℕ) → m ≡ 64 → expanded ≡ output p (initial seed) m .bytes
+    → take 32 expanded ≡ innerSeed p seed
 unfolding expandedSeed innerSeed
-inner-made seed expanded m e l s = rw (s, l, e)
+inner-made p seed expanded m l s = rw (s, l)
 
 pub public-made : (p : Parameters) (seed inner public old : List ℕ) → inner ≡ innerSeed p seed
     → public ≡ leaves (keyDraws p inner) (publicKey p inner) old
@@ -74,15 +74,14 @@ shared-made p pk message ct old shared before e s h =
     ∙ sym (leaves-accepted (sharedHash message (encapsulated p pk message)) before e)
 
 -- algorithm 31: the seeds
-pub halves-made : {p q : Parameters} (seed expanded : List ℕ) (m : ℕ) → p ≡ q → m ≡ 64 → expanded ≡ output p (initial seed) m .bytes
-    → expanded ≡ expandedSeed q seed
+pub halves-made : (p : Parameters) (seed expanded : List ℕ) (m : ℕ) → m ≡ 64 → expanded ≡ output p (initial seed) m .bytes → expanded ≡ expandedSeed p seed
 unfolding expandedSeed
-halves-made seed expanded m e l s = s ∙ rw (l, e)
+halves-made p seed expanded m l s = s ∙ rw l
 
-pub seed-made : {p q : Parameters} (seed inner out : List ℕ) (m : ℕ) → p ≡ q → m ≡ 32 → inner ≡ innerSeed q seed
-    → out ≡ output p (initial inner) m .bytes → out ≡ secretSeed q (innerSeed q seed)
+pub seed-made : (p : Parameters) (seed inner out : List ℕ) (m : ℕ) → m ≡ 32 → inner ≡ innerSeed p seed → out ≡ output p (initial inner) m .bytes
+    → out ≡ secretSeed p (innerSeed p seed)
 unfolding secretSeed
-seed-made seed inner out m e l i s = s ∙ rw (i, l, e)
+seed-made p seed inner out m l i s = s ∙ rw (i, l)
 
 -- the message read
 pub read-made : (p : Parameters) (sk ct inner message old : List ℕ) (n : ℕ) (o : Outcome) → inner ≡ secretSeed p (innerSeed p (take 32 sk))

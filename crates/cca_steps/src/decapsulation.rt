@@ -1,10 +1,12 @@
 // What a ciphertext is read as with a secret key, and the shared key (003, algorithm 31).
 use calls::Answer;
+use sets::Parameters;
 ghost use mathlib.Core.Path.{_≡_};
-ghost use Prim.Native.Nat.{_+_, _≤_};
+ghost use Prim.Native.Nat.{_+_};
 ghost use lib.ListN.{length, take, drop};
 ghost use Rattle.calls.specs.Outcome.{outcome, leaves};
-ghost use Rattle.sets.specs.Table.{setOf, IsSet};
+ghost use Rattle.sets.specs.Table.{Listed};
+ghost use Rattle.sets.specs.Rules.{ByteRules};
 ghost use Rattle.sets.specs.Derived.{publicKeyBytes, cpaCiphertextBytes};
 ghost use Rattle.scheme.specs.Encryption.{secretSeed};
 ghost use Rattle.scheme.specs.Exchange.{expandedSeed, innerSeed, decapsulatedMessage, decapsulated};
@@ -12,19 +14,18 @@ ghost use Rattle.scheme.specs.Answers.{workLength, encryptDraws, decapsulateDra
 ghost use Rattle.cca_steps.specs.Steps.{innerDraw, keyOfMessage};
 
 // Expands a seed into the inner seed and the reject bytes, and the inner seed into the seed of the secret.
-fn expand_seed(set: usize, seed: &[u8], expanded: &mut [u8], inner: &mut [u8])
-    requires { ⌜ IsSet set × (length (now seed) ≡ 32) × (length (now expanded) ≡ 64) × (length (now inner) ≡ 32) ⌝ }
-    ensures halves { λ _. ⌜ now (expanded .exit) ≡ expandedSeed (setOf set) (now (seed .entry)) ⌝ }
-    ensures secret { λ _. ⌜ now (inner .exit) ≡ secretSeed (setOf set) (innerSeed (setOf set) (now (seed .entry))) ⌝ }
+fn expand_seed(p: Parameters, seed: &[u8], expanded: &mut [u8], inner: &mut [u8])
+    requires { ⌜ (length (now seed) ≡ 32) × (length (now expanded) ≡ 64) × (length (now inner) ≡ 32) ⌝ }
+    ensures halves { λ _. ⌜ now (expanded .exit) ≡ expandedSeed p (now (seed .entry)) ⌝ }
+    ensures secret { λ _. ⌜ now (inner .exit) ≡ secretSeed p (innerSeed p (now (seed .entry))) ⌝ }
 {
-    let p = sets::parameters_of(set);
     byte_source::source_bytes(p, seed, 0, expanded);
     byte_source::source_bytes(p, &expanded[0..32], 0, inner);
 }
 
 // Decrypts a ciphertext; `inner` is lent for the seed of the secret.
 fn decrypt_with_buffers(
-    set: usize,
+    p: Parameters,
     secret: &[u8],
     ciphertext: &[u8],
     expanded: &mut [u8],
@@ -32,39 +33,39 @@ fn decrypt_with_buffers(
     work: &mut [u32],
     inner: &mut [u8],
 ) -> Answer
-    requires { ⌜ (1 ≤ set) × IsSet set × (length (now secret) ≡ 32 + publicKeyBytes (setOf set))
-        × (length (now ciphertext) ≡ cpaCiphertextBytes (setOf set) + 32) × (length (now expanded) ≡ 64) × (length (now message) ≡ 32)
-        × (length (now work) ≡ workLength (setOf set)) × (length (now inner) ≡ 32) ⌝ }
-    ensures answer { λ r. ⌜ outcome r ≡ innerDraw (setOf set) (now (secret .entry)) ⌝ }
-    ensures halves { λ _. ⌜ now (expanded .exit) ≡ expandedSeed (setOf set) (take 32 (now (secret .entry))) ⌝ }
-    ensures read { λ _. ⌜ now (message .exit) ≡ leaves (innerDraw (setOf set) (now (secret .entry)))
-        (decapsulatedMessage (setOf set) (now (secret .entry)) (now (ciphertext .entry))) (now (message .entry)) ⌝ }
+    requires { ⌜ ByteRules p × Listed p × (length (now secret) ≡ 32 + publicKeyBytes p)
+        × (length (now ciphertext) ≡ cpaCiphertextBytes p + 32) × (length (now expanded) ≡ 64) × (length (now message) ≡ 32)
+        × (length (now work) ≡ workLength p) × (length (now inner) ≡ 32) ⌝ }
+    ensures answer { λ r. ⌜ outcome r ≡ innerDraw p (now (secret .entry)) ⌝ }
+    ensures halves { λ _. ⌜ now (expanded .exit) ≡ expandedSeed p (take 32 (now (secret .entry))) ⌝ }
+    ensures read { λ _. ⌜ now (message .exit) ≡ leaves (innerDraw p (now (secret .entry)))
+        (decapsulatedMessage p (now (secret .entry)) (now (ciphertext .entry))) (now (message .entry)) ⌝ }
 {
-    expand_seed(set, &secret[0..32], expanded, inner);
+    expand_seed(p, &secret[0..32], expanded, inner);
     let n = ciphertext.len() - 32;
-    cpa_decrypt::decrypt(set, inner, &ciphertext[0..n], message, work)
+    cpa_decrypt::decrypt(p, inner, &ciphertext[0..n], message, work)
 }
 
 // Decrypts a ciphertext with the seed in a secret key, and expands that seed.
 fn decrypt(
-    set: usize,
+    p: Parameters,
     secret: &[u8],
     ciphertext: &[u8],
     expanded: &mut [u8],
     message: &mut [u8],
     work: &mut [u32],
 ) -> Answer
-    requires { ⌜ (1 ≤ set) × IsSet set × (length (now secret) ≡ 32 + publicKeyBytes (setOf set))
-        × (length (now ciphertext) ≡ cpaCiphertextBytes (setOf set) + 32) × (length (now expanded) ≡ 64) × (length (now message) ≡ 32)
-        × (length (now work) ≡ workLength (setOf set)) ⌝ }
-    ensures answer { λ r. ⌜ outcome r ≡ innerDraw (setOf set) (now (secret .entry)) ⌝ }
-    ensures halves { λ _. ⌜ now (expanded .exit) ≡ expandedSeed (setOf set) (take 32 (now (secret .entry))) ⌝ }
-    ensures read { λ _. ⌜ now (message .exit) ≡ leaves (innerDraw (setOf set) (now (secret .entry)))
-        (decapsulatedMessage (setOf set) (now (secret .entry)) (now (ciphertext .entry))) (now (message .entry)) ⌝ }
+    requires { ⌜ ByteRules p × Listed p × (length (now secret) ≡ 32 + publicKeyBytes p)
+        × (length (now ciphertext) ≡ cpaCiphertextBytes p + 32) × (length (now expanded) ≡ 64) × (length (now message) ≡ 32)
+        × (length (now work) ≡ workLength p) ⌝ }
+    ensures answer { λ r. ⌜ outcome r ≡ innerDraw p (now (secret .entry)) ⌝ }
+    ensures halves { λ _. ⌜ now (expanded .exit) ≡ expandedSeed p (take 32 (now (secret .entry))) ⌝ }
+    ensures read { λ _. ⌜ now (message .exit) ≡ leaves (innerDraw p (now (secret .entry)))
+        (decapsulatedMessage p (now (secret .entry)) (now (ciphertext .entry))) (now (message .entry)) ⌝ }
 {
     let mut inner = [0u8; 32];
     decrypt_with_buffers(
-        set,
+        p,
         secret,
         ciphertext,
         expanded,
@@ -76,7 +77,7 @@ fn decrypt(
 
 // Encapsulates the message read again, and hashes it, or the reject bytes, into the shared key; `again` is lent for the ciphertext.
 fn key_of_message<'a>(
-    set: usize,
+    p: Parameters,
     secret: &[u8],
     ciphertext: &[u8],
     expanded: &'a [u8],
@@ -85,15 +86,15 @@ fn key_of_message<'a>(
     shared: &mut [u8],
     work: &mut [u32],
 ) -> Answer
-    requires { ⌜ (1 ≤ set) × IsSet set × (length (now secret) ≡ 32 + publicKeyBytes (setOf set))
-        × (length (now ciphertext) ≡ cpaCiphertextBytes (setOf set) + 32) × (length (now expanded) ≡ 64) × (length (now message) ≡ 32)
-        × (length (now again) ≡ cpaCiphertextBytes (setOf set) + 32) × (length (now shared) ≡ 32) × (length (now work) ≡ workLength (setOf set)) ⌝ }
-    ensures answer { λ r. ⌜ outcome r ≡ encryptDraws (setOf set) (drop 32 (now (secret .entry))) ⌝ }
-    ensures agreed { λ _. ⌜ now (shared .exit) ≡ leaves (encryptDraws (setOf set) (drop 32 (now (secret .entry))))
-        (keyOfMessage (setOf set) (drop 32 (now (secret .entry))) (now (message .entry)) (drop 32 (now (expanded .entry))) (now (ciphertext .entry)))
+    requires { ⌜ ByteRules p × Listed p × (length (now secret) ≡ 32 + publicKeyBytes p)
+        × (length (now ciphertext) ≡ cpaCiphertextBytes p + 32) × (length (now expanded) ≡ 64) × (length (now message) ≡ 32)
+        × (length (now again) ≡ cpaCiphertextBytes p + 32) × (length (now shared) ≡ 32) × (length (now work) ≡ workLength p) ⌝ }
+    ensures answer { λ r. ⌜ outcome r ≡ encryptDraws p (drop 32 (now (secret .entry))) ⌝ }
+    ensures agreed { λ _. ⌜ now (shared .exit) ≡ leaves (encryptDraws p (drop 32 (now (secret .entry))))
+        (keyOfMessage p (drop 32 (now (secret .entry))) (now (message .entry)) (drop 32 (now (expanded .entry))) (now (ciphertext .entry)))
         (now (shared .entry)) ⌝ }
 {
-    let answer = crate::encapsulation::encapsulate(set, &secret[32..], message, again, work);
+    let answer = crate::encapsulation::encapsulate(p, &secret[32..], message, again, work);
     let Answer::Done = answer else {
         return answer;
     };
@@ -105,7 +106,7 @@ fn key_of_message<'a>(
 
 // The shared key of a ciphertext, with room for what is made on the way.
 fn decapsulated_with_buffers(
-    set: usize,
+    p: Parameters,
     secret: &[u8],
     ciphertext: &[u8],
     shared: &mut [u8],
@@ -114,22 +115,22 @@ fn decapsulated_with_buffers(
     message: &mut [u8],
     again: &mut [u8],
 ) -> Answer
-    requires { ⌜ (1 ≤ set) × IsSet set × (length (now secret) ≡ 32 + publicKeyBytes (setOf set))
-        × (length (now ciphertext) ≡ cpaCiphertextBytes (setOf set) + 32) × (length (now shared) ≡ 32) × (length (now work) ≡ workLength (setOf set))
-        × (length (now expanded) ≡ 64) × (length (now message) ≡ 32) × (length (now again) ≡ cpaCiphertextBytes (setOf set) + 32) ⌝ }
-    ensures answer { λ r. ⌜ outcome r ≡ decapsulateDraws (setOf set) (now (secret .entry)) ⌝ }
-    ensures agreed { λ _. ⌜ now (shared .exit) ≡ leaves (decapsulateDraws (setOf set) (now (secret .entry)))
-        (decapsulated (setOf set) (now (secret .entry)) (now (ciphertext .entry))) (now (shared .entry)) ⌝ }
+    requires { ⌜ ByteRules p × Listed p × (length (now secret) ≡ 32 + publicKeyBytes p)
+        × (length (now ciphertext) ≡ cpaCiphertextBytes p + 32) × (length (now shared) ≡ 32) × (length (now work) ≡ workLength p)
+        × (length (now expanded) ≡ 64) × (length (now message) ≡ 32) × (length (now again) ≡ cpaCiphertextBytes p + 32) ⌝ }
+    ensures answer { λ r. ⌜ outcome r ≡ decapsulateDraws p (now (secret .entry)) ⌝ }
+    ensures agreed { λ _. ⌜ now (shared .exit) ≡ leaves (decapsulateDraws p (now (secret .entry)))
+        (decapsulated p (now (secret .entry)) (now (ciphertext .entry))) (now (shared .entry)) ⌝ }
 {
-    if !cpa_encrypt::key_below(set, &secret[32..], work) {
+    if !cpa_encrypt::key_below(p, &secret[32..], work) {
         return Answer::Refused(3, 0);
     }
-    let answer = decrypt(set, secret, ciphertext, expanded, message, work);
+    let answer = decrypt(p, secret, ciphertext, expanded, message, work);
     let Answer::Done = answer else {
         return answer;
     };
     key_of_message(
-        set,
+        p,
         secret,
         ciphertext,
         expanded,
@@ -142,24 +143,24 @@ fn decapsulated_with_buffers(
 
 // The shared key of a ciphertext.
 pub fn decapsulated_key(
-    set: usize,
+    p: Parameters,
     secret: &[u8],
     ciphertext: &[u8],
     shared: &mut [u8],
     work: &mut [u32],
 ) -> Answer
-    requires { ⌜ (1 ≤ set) × IsSet set × (length (now secret) ≡ 32 + publicKeyBytes (setOf set))
-        × (length (now ciphertext) ≡ cpaCiphertextBytes (setOf set) + 32) × (length (now shared) ≡ 32) × (length (now work) ≡ workLength (setOf set)) ⌝ }
-    ensures answer { λ r. ⌜ outcome r ≡ decapsulateDraws (setOf set) (now (secret .entry)) ⌝ }
-    ensures agreed { λ _. ⌜ now (shared .exit) ≡ leaves (decapsulateDraws (setOf set) (now (secret .entry)))
-        (decapsulated (setOf set) (now (secret .entry)) (now (ciphertext .entry))) (now (shared .entry)) ⌝ }
+    requires { ⌜ ByteRules p × Listed p × (length (now secret) ≡ 32 + publicKeyBytes p)
+        × (length (now ciphertext) ≡ cpaCiphertextBytes p + 32) × (length (now shared) ≡ 32) × (length (now work) ≡ workLength p) ⌝ }
+    ensures answer { λ r. ⌜ outcome r ≡ decapsulateDraws p (now (secret .entry)) ⌝ }
+    ensures agreed { λ _. ⌜ now (shared .exit) ≡ leaves (decapsulateDraws p (now (secret .entry)))
+        (decapsulated p (now (secret .entry)) (now (ciphertext .entry))) (now (shared .entry)) ⌝ }
 {
     let mut expanded = [0u8; 64];
     let mut message = [0u8; 32];
     let mut again = [0u8; 8352];
     let n = ciphertext.len();
     decapsulated_with_buffers(
-        set,
+        p,
         secret,
         ciphertext,
         shared,

@@ -18,9 +18,9 @@ use Rattle.calls.specs.Checks.{passing, below}
 use Rattle.calls.specs.Region.{over}
 use Rattle.calls.proofs.Region.{over-length}
 use Rattle.sets.specs.declared.Parameters.{Parameters}
-use Rattle.sets.specs.Table.{setOf, IsSet}
+use Rattle.sets.specs.Table.{Listed}
 use Rattle.sets.specs.Derived.{transformSize}
-use Rattle.sets.proofs.Rules.{rules}
+use Rattle.sets.proofs.Rules.{listed-rules}
 use Rattle.sets.proofs.Transforms.{third-size, second-size}
 use Rattle.packing.specs.Digits.{unpack}
 use Rattle.packing.proofs.Laws.{unpack-length}
@@ -50,14 +50,14 @@ module _ (p : Parameters) (stored ct : List ℕ) where
   firstCorrelations-below some = record { each = λ j h. rw (tabulate-at (p .d) _ j h) (mod-lt _ some) }
 
 -- places for the third transform have room for the second
-pub second-room : (set : ℕ) → IsSet set → (xs : List ℕ) → length xs ≡ transformSize (setOf set) 3 → setOf set .d2 ≤ length xs
-second-room set low xs size = rw (size, third-size) (rules set low .rising2)
+pub second-room : (p : Parameters) → Listed p → (xs : List ℕ) → length xs ≡ transformSize p 3 → p .d2 ≤ length xs
+second-room p known xs size = rw (size, third-size) (listed-rules p known .rising2)
 
 -- ĉ1 from the first bytes of a ciphertext
-pub first-unpacked : (p : Parameters) (ct : List ℕ) {width n end : ℕ} → width ≡ p .width → n ≡ p .d2 → end ≡ firstBytes p
-    → unpack width n (take (end - 0) (drop 0 ct)) ≡ cipherFirst p ct
+pub first-unpacked : (p : Parameters) (ct : List ℕ) {n end : ℕ} → n ≡ p .d2 → end ≡ firstBytes p
+    → unpack (p .width) n (take (end - 0) (drop 0 ct)) ≡ cipherFirst p ct
 unfolding cipherFirst
-first-unpacked p ct w e b = rw (sub-zero, w, e, b)
+first-unpacked p ct e b = rw (sub-zero, e, b)
 
 -- how many numbers ĉ1 has
 pub cipherFirst-length : (p : Parameters) (ct : List ℕ) → length (cipherFirst p ct) ≡ p .d2
@@ -70,50 +70,49 @@ front-below p stored ct xs some e =
     record { each = λ j h. rw (← getD-take (p .d) xs j 0 h, e) (firstCorrelations-below p stored ct some .each j h) }
 
 -- c1'
-abbrev pub first : ℕ → List ℕ → List ℕ
-first set ct = recovered (setOf set) 2 (setOf set .n + setOf set .k) (cipherFirst (setOf set) ct)
+abbrev pub first : Parameters → List ℕ → List ℕ
+first p ct = recovered p 2 (p .n + p .k) (cipherFirst p ct)
 
 -- the second transform has room for it
-pub few : (set : ℕ) → IsSet set → setOf set .n + setOf set .k ≤ transformSize (setOf set) 2
-few set low = rw second-size (rules set low .holds2)
+pub few : (p : Parameters) → Listed p → p .n + p .k ≤ transformSize p 2
+few p known = rw second-size (listed-rules p known .holds2)
 
 -- x is a buffer with the places of the third transform, to whose front ys, which begin with c1', were recovered
-module _ (set : ℕ) (low : IsSet set) (x ct ys : List ℕ) (size : length x ≡ transformSize (setOf set) 3) (long : length ys ≡ transformSize (setOf set) 2)
-    (made : take (setOf set .n + setOf set .k) ys ≡ first set ct)
+module _ (p : Parameters) (known : Listed p) (x ct ys : List ℕ) (size : length x ≡ transformSize p 3) (long : length ys ≡ transformSize p 2)
+    (made : take (p .n + p .k) ys ≡ first p ct)
   where
     -- the buffer begins with c1'
-    buffer-front : take (setOf set .n + setOf set .k) (over x 0 ys) ≡ first set ct
-    buffer-front = front-first x ys (setOf set .n + setOf set .k) (rw long (few set low)) ∙ made
+    buffer-front : take (p .n + p .k) (over x 0 ys) ≡ first p ct
+    buffer-front = front-first x ys (p .n + p .k) (rw long (few p known)) ∙ made
 
     -- so c1' may be sent
-    pub buffer-placed : Placed (setOf set) 3 (setOf set .n + setOf set .k) (over x 0 ys)
+    pub buffer-placed : Placed p 3 (p .n + p .k) (over x 0 ys)
     buffer-placed =
-        let room = second-room set low x size in
+        let room = second-room p known x size in
         record {
-          size = over-length x 0 ys (omega (arith, room, second-size (setOf set))) ∙ size;
-          inside = omega (arith, few set low, room, second-size (setOf set), size);
+          size = over-length x 0 ys (omega (arith, room, second-size p)) ∙ size;
+          inside = omega (arith, few p known, room, second-size p, size);
           residues =
               record {
-                each = λ j h. rw (← getD-take (setOf set .n + setOf set .k) (over x 0 ys) j 0 h, buffer-front)
-                    (recovered-below set low 2 (setOf set .n + setOf set .k) (cipherFirst (setOf set) ct) (few set low) .each j h);
+                each = λ j h. rw (← getD-take (p .n + p .k) (over x 0 ys) j 0 h, buffer-front)
+                    (recovered-below p known 2 (p .n + p .k) (cipherFirst p ct) (few p known) .each j h);
               };
         }
 
     -- and its correlations with what is stored are those of the definition
-    pub first-correlated : (stored new buffer : List ℕ) (count d : ℕ) → buffer ≡ over x 0 ys → count ≡ setOf set .n + setOf set .k → d ≡ setOf set .d
-        → take d new
-        ≡ correlations (setOf set .q) (take count buffer) (recoveredInverse (setOf set) 3 (transformSize (setOf set) 3) stored) d
-        → take (setOf set .d) new ≡ firstCorrelations (setOf set) stored ct
+    pub first-correlated : (stored new buffer : List ℕ) (count : ℕ) → buffer ≡ over x 0 ys → count ≡ p .n + p .k
+        → take (p .d) new ≡ correlations (p .q) (take count buffer) (recoveredInverse p 3 (transformSize p 3) stored) (p .d)
+        → take (p .d) new ≡ firstCorrelations p stored ct
     unfolding firstCorrelations correlations
-    first-correlated stored new buffer count d written counted places correlated =
-        let kept = rules set low in
-        let n = setOf set .n + setOf set .k in
-        let m = setOf set .n + setOf set .d + setOf set .k - 1 in
-        let c1 = first set ct in
-        let within : m ≤ transformSize (setOf set) 3 = rw third-size (kept .holds3) in
+    first-correlated stored new buffer count written counted correlated =
+        let kept = listed-rules p known in
+        let n = p .n + p .k in
+        let m = p .n + p .d + p .k - 1 in
+        let c1 = first p ct in
+        let within : m ≤ transformSize p 3 = rw third-size (kept .holds3) in
         let c1-length : length c1 ≡ n = unfold recovered in recover-length _ _ _ _ _ n _ in
-        (rw (written, counted, places) at correlated)
+        (rw (written, counted) at correlated)
         ∙ rw (buffer-front, c1-length)
-        (tabulate-cong (setOf set .d) _ _ (λ j h. ap (λ (y : ℕ). y % setOf set .q)
-        (correlation-front n m j (at c1) (recoveredInverse (setOf set) 3 (transformSize (setOf set) 3) stored) (omega (arith, kept .some-n))
-        ∙ ap (λ (zs : List ℕ). correlation n (at c1) (at zs) j) (recoveredInverse-take set 3 m stored within))))
+        (tabulate-cong (p .d) _ _ (λ j h. ap (λ (y : ℕ). y % p .q)
+        (correlation-front n m j (at c1) (recoveredInverse p 3 (transformSize p 3) stored) (omega (arith, kept .some-n))
+        ∙ ap (λ (zs : List ℕ). correlation n (at c1) (at zs) j) (recoveredInverse-take p 3 m stored within))))

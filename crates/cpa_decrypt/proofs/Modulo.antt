@@ -12,7 +12,8 @@ use Rattle.maths.specs.Congruence.{Mod}
 use Rattle.maths.proofs.Vector.{at-past, map-at}
 use Rattle.maths.proofs.Congruence.{mod-eq, mod-remainder}
 use Rattle.maths.proofs.Transform.{recover-mod}
-use Rattle.sets.specs.Table.{setOf, IsSet}
+use Rattle.sets.specs.declared.Parameters.{Parameters}
+use Rattle.sets.specs.Table.{Listed}
 use Rattle.sets.specs.Derived.{transformSize}
 use Rattle.ntt_products.specs.Stored.{rowCount, rootInverse, sizeInverse, recovered}
 use Rattle.ntt_products.specs.Placed.{Placed}
@@ -43,21 +44,19 @@ module _ (q : ℕ) (xs : List ℕ) where
       ]
 
 -- numbers of q or more count modulo q
-pub recovered-reduced : (set : ℕ) → IsSet set → (i m : ℕ) (xs : List ℕ) → m ≤ transformSize (setOf set) i
-    → recovered (setOf set) i m (reduced (setOf set .q) xs) ≡ recovered (setOf set) i m xs
+pub recovered-reduced : (p : Parameters) → Listed p → (i m : ℕ) (xs : List ℕ) → m ≤ transformSize p i
+    → recovered p i m (reduced (p .q) xs) ≡ recovered p i m xs
 unfolding recovered
-recovered-reduced set low i m xs fits =
-    recover-mod (setOf set .q) (setOf set .row) (rowCount (setOf set) i) (rootInverse (setOf set) i) (sizeInverse (setOf set) i) m (reduced (setOf set .q) xs)
-    xs
-    (omega (arith, size-rows set low i))
-    (reduced-mod (setOf set .q) xs)
+recovered-reduced p known i m xs fits =
+    recover-mod (p .q) (p .row) (rowCount p i) (rootInverse p i) (sizeInverse p i) m (reduced (p .q) xs) xs (omega (arith, size-rows p known i))
+    (reduced-mod (p .q) xs)
 
 -- a vector with the places of a transform may be recovered once its numbers are taken modulo q
-pub reduced-placed : (set : ℕ) → IsSet set → (i : ℕ) (xs : List ℕ) → length xs ≡ transformSize (setOf set) i
-    → Placed (setOf set) i (transformSize (setOf set) i) (reduced (setOf set .q) xs)
-reduced-placed set low i xs size =
+pub reduced-placed : (p : Parameters) → Listed p → (i : ℕ) (xs : List ℕ) → length xs ≡ transformSize p i
+    → Placed p i (transformSize p i) (reduced (p .q) xs)
+reduced-placed p known i xs size =
     record {
-      size = reduced-length (setOf set .q) xs ∙ size;
+      size = reduced-length (p .q) xs ∙ size;
       inside = omega arith;
-      residues = rw size at (reduced-below (setOf set .q) xs (omega (arith, some-modulus set low i)));
+      residues = rw size at (reduced-below (p .q) xs (omega (arith, some-modulus p known i)));
     }

@@ -7,10 +7,10 @@ use native.Mathlib.Omega.{arith}
 use lib.Pow.{pow-add}
 use Rattle.maths.specs.Vector.{AllBelow}
 use Rattle.sets.specs.declared.Parameters.{Parameters}
+use Rattle.sets.specs.Table.{Listed}
 use Rattle.sets.specs.Derived.{cpaCiphertextBytes}
 use Rattle.sets.specs.Rules.{Rules, ByteRules}
-use Rattle.sets.specs.Table.{setOf, IsSet}
-use Rattle.sets.proofs.Rules.{rules, byteRules}
+use Rattle.sets.proofs.Rules.{listed-rules}
 use Rattle.sets.proofs.Transforms.{second-size, third-size}
 use Rattle.ntt_products.specs.Placed.{tableLength}
 use Rattle.packing.specs.Digits.{unpack}
@@ -58,9 +58,9 @@ module _ (p : Parameters) where
 rows-rising : (C D ρ : ℕ) → ρ ≡ 256 → C ≤ D → C / ρ ≤ D / ρ
 rows-rising C D ρ e h = rw e (omega arith)
 
-module _ (set : ℕ) (some : 1 ≤ set) (low : IsSet set) where
+module _ (p : Parameters) (bytes : ByteRules p) (known : Listed p) where
   -- the tables of the second transform have room in those of the third
-  pub tables-rising : tableLength (setOf set) 2 ≤ tableLength (setOf set) 3
+  pub tables-rising : tableLength p 2 ≤ tableLength p 3
   tables-rising =
-      let rising = rules set low .rising2 in
-      rw (second-size (setOf set), third-size (setOf set)) (omega (arith, rows-rising _ _ _ (byteRules set some low .row-256) rising))
+      let rising = listed-rules p known .rising2 in
+      rw (second-size p, third-size p) (omega (arith, rows-rising _ _ _ (bytes .row-256) rising))

@@ -6,7 +6,7 @@ use Prim.Native.Nat.{ℕ}
 use native.Mathlib.Omega.{arith}
 use Rattle.calls.specs.Outcome.{accepted, refused}
 use Rattle.sets.specs.declared.Parameters.{Parameters}
-use Rattle.sets.specs.Table.{setOf, IsSet}
+use Rattle.sets.specs.Table.{Listed}
 use Rattle.sets.specs.Derived.{transformSize}
 use Rattle.draws.specs.Uniform.{taken, numbers}
 use Rattle.byte_source.specs.Source.{initial}
@@ -33,13 +33,12 @@ module _ (p : Parameters) (seed : List ℕ) where
   secret-refused h = rw (not-taken (uniform p (initial seed) (p .bytpcs) (p .d3) .drawn) h)
 
 -- the numbers drawn have the places of the third transform
-pub secret-placed : (set : ℕ) → IsSet set → (seed xs : List ℕ) → uniform (setOf set) (initial seed) (setOf set .bytpcs) (setOf set .d3) .drawn ≡ taken xs
-    → Placed (setOf set) 3 (transformSize (setOf set) 3) xs
+pub secret-placed : (p : Parameters) → Listed p → (seed xs : List ℕ) → uniform p (initial seed) (p .bytpcs) (p .d3) .drawn ≡ taken xs
+    → Placed p 3 (transformSize p 3) xs
 unfolding numbers
-secret-placed set low seed xs e =
-    let p = setOf set in
+secret-placed p known seed xs e =
     record {
       size = uniform-length p (initial seed) (p .bytpcs) (p .d3) xs e ∙ sym (third-size p);
       inside = omega arith;
-      residues = record { each = λ j h. rw e at (uniform-below p (initial seed) (p .bytpcs) (p .d3) (omega (arith, some-modulus set low 3)) j) };
+      residues = record { each = λ j h. rw e at (uniform-below p (initial seed) (p .bytpcs) (p .d3) (omega (arith, some-modulus p known 3)) j) };
     }

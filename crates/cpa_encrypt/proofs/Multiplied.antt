@@ -1,6 +1,6 @@
 -- One multiplier polynomial among all multipliers: its room, and what is sent of it.
 -- Assumes nothing.
-use mathlib.Core.Path.{_≡_, refl, ap, _∙_}
+use mathlib.Core.Path.{_≡_, refl}
 use mathlib.Core.List.{List}
 use Prim.Native.Nat.{ℕ, suc, _+_, _-_, _*_, _≤_, _<_}
 use native.Mathlib.Nat.{mul-le-mul-left}
@@ -12,10 +12,10 @@ use Rattle.maths.proofs.Vector.{at-past}
 use Rattle.calls.specs.Region.{region, over, vector}
 use Rattle.calls.proofs.Region.{region-entry, region-length, region-part}
 use Rattle.sets.specs.declared.Parameters.{Parameters}
-use Rattle.sets.specs.Table.{setOf, IsSet}
+use Rattle.sets.specs.Table.{Listed}
 use Rattle.sets.specs.Derived.{transformSize, multiplierCount}
 use Rattle.sets.specs.Rules.{Rules}
-use Rattle.sets.proofs.Rules.{rules}
+use Rattle.sets.proofs.Rules.{listed-rules}
 use Rattle.sets.proofs.Transforms.{by-size}
 use Rattle.packing.specs.Digits.{Digit}
 use Rattle.ntt_products.specs.Placed.{Placed}
@@ -41,35 +41,35 @@ pub record Room (p : Parameters) (i count : ℕ) : Type 0 where
   pub within : (p .k + 1) * i + (p .k + 1) ≤ count
   pub few : count ≤ 8192
 
-module _ (set : ℕ) (low : IsSet set) (p : Parameters) (e : p ≡ setOf set) where
+module _ (p : Parameters) (known : Listed p) where
   -- a multiplier polynomial lies within all multipliers
-  pub vector-room : (i : ℕ) → i < setOf set .t → Room p i (multiplierCount (setOf set))
+  pub vector-room : (i : ℕ) → i < p .t → Room p i (multiplierCount p)
   unfolding multiplierCount
   vector-room i h =
-      let kept = rules set low in
-      let room : (setOf set .k + 1) * i + (setOf set .k + 1) ≤ (setOf set .k + 1) * setOf set .t = vector-within (setOf set .k + 1) i (setOf set .t) h in
-      rw e (record { short = omega (arith, kept .most-k); within = omega arith; few = kept .most-multipliers })
+      let kept = listed-rules p known in
+      let room : (p .k + 1) * i + (p .k + 1) ≤ (p .k + 1) * p .t = vector-within (p .k + 1) i (p .t) h in
+      record { short = omega (arith, kept .most-k); within = omega arith; few = kept .most-multipliers }
 
   -- a multiplier polynomial fits every transform
-  pub multiplier-fits : (number : ℕ) → p .k + 1 ≤ transformSize (setOf set) number
+  pub multiplier-fits : (number : ℕ) → p .k + 1 ≤ transformSize p number
   multiplier-fits number =
-      let kept = rules set low in
-      rw e (by-size (setOf set) number (λ D. setOf set .k + 1 ≤ D) (omega (arith, kept .some-d, kept .holds1))
-      (omega (arith, kept .some-d, kept .holds1, kept .rising1)) (omega (arith, kept .some-d, kept .holds1, kept .rising1, kept .rising2)))
+      let kept = listed-rules p known in
+      by-size p number (λ D. p .k + 1 ≤ D) (omega (arith, kept .some-d, kept .holds1)) (omega (arith, kept .some-d, kept .holds1, kept .rising1))
+      (omega (arith, kept .some-d, kept .holds1, kept .rising1, kept .rising2))
 
-  module _ (number i : ℕ) (xs ms : List ℕ) (size : length xs ≡ transformSize (setOf set) number) (m : Multipliers (setOf set) ms) (h : i < setOf set .t) where
+  module _ (number i : ℕ) (xs ms : List ℕ) (size : length xs ≡ transformSize p number) (m : Multipliers p ms) (h : i < p .t) where
     -- it has k + 1 numbers
     part-size : length (region ms ((p .k + 1) * i) (p .k + 1)) ≡ p .k + 1
     part-size = region-length ms ((p .k + 1) * i) (p .k + 1) (omega (arith, m .size, vector-room i h .within))
 
     -- copied to the front of a slice, it may be sent
-    pub multipliers-placed : Placed (setOf set) number (p .k + 1) (over xs 0 (take ((p .k + 1) * i + (p .k + 1) - (p .k + 1) * i) (drop ((p .k + 1) * i) ms)))
+    pub multipliers-placed : Placed p number (p .k + 1) (over xs 0 (take ((p .k + 1) * i + (p .k + 1) - (p .k + 1) * i) (drop ((p .k + 1) * i) ms)))
     multipliers-placed =
         let room = vector-room i h in
         let ys = region ms ((p .k + 1) * i) (p .k + 1) in
         rw (region-part ms ((p .k + 1) * i) (p .k + 1) ((p .k + 1) * i + (p .k + 1)) refl)
         (rw part-size at
-        (front-placed set number xs ys size (rw part-size (multiplier-fits number))
+        (front-placed p number xs ys size (rw part-size (multiplier-fits number))
         (record {
           each = λ j l. let inside : j < p .k + 1 = rw part-size at l in
               rw (region-entry ms ((p .k + 1) * i) (p .k + 1) j 0 inside) (m .residues .each ((p .k + 1) * i + j) (omega (arith, room .within)));
@@ -77,9 +77,8 @@ module _ (set : ℕ) (low : IsSet set) (p : Parameters) (e : p ≡ setOf set) wh
 
     -- what is sent is that polynomial
     pub multipliers-front : take (p .k + 1) (over xs 0 (take ((p .k + 1) * i + (p .k + 1) - (p .k + 1) * i) (drop ((p .k + 1) * i) ms)))
-        ≡ vector (setOf set .k + 1) ms i
+        ≡ vector (p .k + 1) ms i
     multipliers-front =
         let ys = region ms ((p .k + 1) * i) (p .k + 1) in
         rw (region-part ms ((p .k + 1) * i) (p .k + 1) ((p .k + 1) * i + (p .k + 1)) refl)
-        (rw part-size at (front xs ys (rw (part-size, size) (multiplier-fits number)))
-        ∙ ap (λ (r : Parameters). region ms ((r .k + 1) * i) (r .k + 1)) e)
+        (rw part-size at (front xs ys (rw (part-size, size) (multiplier-fits number))))

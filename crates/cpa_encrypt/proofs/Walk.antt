@@ -9,9 +9,10 @@ use lib.ListN.{length}
 use Rattle.maths.specs.Vector.{at, AllBelow}
 use Rattle.maths.proofs.Vector.{tabulate-cong}
 use Rattle.sets.specs.declared.Parameters.{Parameters}
-use Rattle.sets.specs.Table.{setOf, IsSet}
+use Rattle.sets.specs.Table.{Listed}
+use Rattle.sets.specs.Rules.{ByteRules}
 use Rattle.sets.specs.Derived.{halfModulus, transformSize}
-use Rattle.sets.proofs.Rules.{rules, byteRules}
+use Rattle.sets.proofs.Rules.{listed-rules}
 use Rattle.montgomery.specs.Scaled.{Modulus}
 use Rattle.packing.specs.Message.{messageBits}
 use Rattle.ntt_products.specs.Stored.{rowCount, rowScale, recoveredInverse}
@@ -25,31 +26,30 @@ scale-below : (p : Parameters) (i : ℕ) → 0 < p .q → rowScale p i < p .q
 unfolding rowScale
 scale-below p i some = mod-lt _ some
 
-module _ (set : ℕ) (some : 1 ≤ set) (low : IsSet set) (p : Parameters) (e : p ≡ setOf set) (by half count d : ℕ) (by-is : by ≡ rowScale p 1)
-    (half-is : half ≡ halfModulus p) (count-is : count ≡ rowCount p 1) (d-is : d ≡ setOf set .d) (rows : List ℕ) where
+module _ (p : Parameters) (bytes : ByteRules p) (known : Listed p) (by half count d : ℕ) (by-is : by ≡ rowScale p 1)
+    (half-is : half ≡ halfModulus p) (count-is : count ≡ rowCount p 1) (d-is : d ≡ p .d) (rows : List ℕ) where
   -- what the walk asks
-  pub walk-ready : {k : ℕ} → Modulus (p .q) k → length rows ≡ transformSize (setOf set) 1
-      → AllBelow (2 * setOf set .q) (transformSize (setOf set) 1) rows → WalkReady (p .q) k by half count rows d
+  pub walk-ready : {k : ℕ} → Modulus (p .q) k → length rows ≡ transformSize p 1
+      → AllBelow (2 * p .q) (transformSize p 1) rows → WalkReady (p .q) k by half count rows d
   walk-ready modulus size below =
-      let kept = rules set low in
-      rw (by-is, half-is, count-is, d-is, e)
+      let kept = listed-rules p known in
+      rw (by-is, half-is, count-is, d-is)
       (record {
-        modulus = rw e at modulus;
-        by-below = scale-below (setOf set) 1 (omega (arith, kept .prime .above));
+        modulus = modulus;
+        by-below = scale-below p 1 (omega (arith, kept .prime .above));
         half-below = omega (arith, kept .odd);
-        few-rows = sizes set low 1 .few-rows;
-        size = size ∙ sym (rows-256 set some low 1);
-        below = rw (rows-256 set some low 1) below;
+        few-rows = sizes p known 1 .few-rows;
+        size = size ∙ sym (rows-256 p bytes known 1);
+        below = rw (rows-256 p bytes known 1) below;
         one-row = kept .most-d;
       })
 
   -- what it gives
-  pub walk-added : (sums message : List ℕ) → RowsRecovered (setOf set) 1 sums rows
-      → finished (p .q) by half count d rows message ≡ messageAdded (setOf set) (recoveredInverse (setOf set) 1 (setOf set .d) sums) message
+  pub walk-added : (sums message : List ℕ) → RowsRecovered p 1 sums rows
+      → finished (p .q) by half count d rows message ≡ messageAdded p (recoveredInverse p 1 (p .d) sums) message
   unfolding finished messageAdded
   walk-added sums message recovered =
-      let fits : setOf set .d ≤ setOf set .row = omega (arith, rules set low .most-d, byteRules set some low .row-256) in
-      rw (by-is, half-is, count-is, d-is, e)
-      (tabulate-cong (setOf set .d) _ _
-      (λ j h.
-      ap (λ (y : ℕ). (y + halfModulus (setOf set) * at (messageBits (setOf set .d) message) j) % setOf set .q) (recovered .first (setOf set .d) j h fits)))
+      let fits : p .d ≤ p .row = omega (arith, listed-rules p known .most-d, bytes .row-256) in
+      rw (by-is, half-is, count-is, d-is)
+      (tabulate-cong (p .d) _ _
+      (λ j h. ap (λ (y : ℕ). (y + halfModulus p * at (messageBits (p .d) message) j) % p .q) (recovered .first (p .d) j h fits)))

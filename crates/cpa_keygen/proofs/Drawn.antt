@@ -51,29 +51,28 @@ module _ (p : Parameters) (bytes : ByteRules p) (seed xs : List ℕ) (run : ℕ)
   unfolding publicDrawn
   public-never-ends i e = uniform-never-ends p (publicState p seed i) (p .bytpca) (p .n) xs run (bytes .some-bytpca) e
 
-module _ (seed : List ℕ) where
-  -- the answer of the draw of polynomial i
-  pub public-answer : {p r : Parameters} {wanted : ℕ} {state : State} (i : ℕ) → r ≡ p → wanted ≡ p .n → state ≡ publicState p seed i
-      → uniformAnswer r state (r .bytpca) wanted ≡ answerOf (publicDrawn p seed i) (publicState p seed (suc i))
-  unfolding uniformAnswer publicState publicDrawn
-  public-answer i e w c = rw (e, w, c)
+module _ (p : Parameters) (seed : List ℕ) {wanted : ℕ} where
+  module _ {state : State} (i : ℕ) (w : wanted ≡ p .n) (c : state ≡ publicState p seed i) where
+    -- the answer of the draw of polynomial i
+    pub public-answer : uniformAnswer p state (p .bytpca) wanted ≡ answerOf (publicDrawn p seed i) (publicState p seed (suc i))
+    unfolding uniformAnswer publicState publicDrawn
+    public-answer = rw (w, c)
 
-  -- the draw itself
-  pub public-draw : {p r : Parameters} {wanted : ℕ} {state : State} (i : ℕ) → r ≡ p → wanted ≡ p .n → state ≡ publicState p seed i
-      → uniform r state (r .bytpca) wanted .drawn ≡ publicDrawn p seed i
-  unfolding publicDrawn
-  public-draw i e w c = rw (e, w, c)
+    -- the draw itself
+    pub public-draw : uniform p state (p .bytpca) wanted .drawn ≡ publicDrawn p seed i
+    unfolding publicDrawn
+    public-draw = rw (w, c)
 
-  -- the answer of the draw of the secret
-  pub secret-answer : {p r : Parameters} {wanted : ℕ} → r ≡ p → wanted ≡ p .d3
-      → uniformAnswer r (initial seed) (r .bytpcs) wanted ≡ answerOf (secretDrawn p seed) (secretState p seed)
-  unfolding uniformAnswer secretSampled secretDrawn secretState
-  secret-answer e w = rw (e, w)
+  module _ (w : wanted ≡ p .d3) where
+    -- the answer of the draw of the secret
+    pub secret-answer : uniformAnswer p (initial seed) (p .bytpcs) wanted ≡ answerOf (secretDrawn p seed) (secretState p seed)
+    unfolding uniformAnswer secretSampled secretDrawn secretState
+    secret-answer = rw w
 
-  -- the draw itself
-  pub secret-draw : {p r : Parameters} {wanted : ℕ} → r ≡ p → wanted ≡ p .d3 → uniform r (initial seed) (r .bytpcs) wanted .drawn ≡ secretDrawn p seed
-  unfolding secretDrawn secretSampled
-  secret-draw e w = rw (e, w)
+    -- the draw itself
+    pub secret-draw : uniform p (initial seed) (p .bytpcs) wanted .drawn ≡ secretDrawn p seed
+    unfolding secretDrawn secretSampled
+    secret-draw = rw w
 
 -- a check of a draw
 pub refuse-not-taken : {b : Bool} {number : ℕ} (after : Outcome) → b ≡ false → number ≡ 5 → refused number 0 ≡ refuse (not b) 5 0 after

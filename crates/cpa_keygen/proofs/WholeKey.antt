@@ -17,9 +17,10 @@ use Rattle.calls.specs.Outcome.{Outcome, accepted, refuse}
 use Rattle.calls.specs.Region.{region, over, joined}
 use Rattle.calls.proofs.Region.{region-entry, region-region, region-over-same, over-length, joined-length, joined-each}
 use Rattle.sets.specs.declared.Parameters.{Parameters}
-use Rattle.sets.specs.Table.{setOf, IsSet}
+use Rattle.sets.specs.Table.{Listed}
+use Rattle.sets.specs.Rules.{ByteRules}
 use Rattle.sets.specs.Derived.{transformSize, packedBytes, errorCount}
-use Rattle.sets.proofs.Rules.{rules}
+use Rattle.sets.proofs.Rules.{listed-rules}
 use Rattle.packing.specs.Digits.{Digit, pack}
 use Rattle.byte_source.specs.Source.{State, initial, output}
 use Rattle.samplers.specs.Seeded.{secretSampled, secretDrawn, secretState, publicDrawn, errorsDrawn}
@@ -41,122 +42,114 @@ residues-at q zs j =
     let zero-residue : residue q (pos 0) ≡ 0 = residue-pos q 0 ∙ zero-mod q in
     ap (getD (map (residue q) zs) j) (sym zero-residue) ∙ List·getD-map (residue q) zs j (pos 0)
 
-module _ (set : ℕ) (some : 1 ≤ set) (low : IsSet set) (seedsk : List ℕ) where
+module _ (p : Parameters) (bytes : ByteRules p) (known : Listed p) (seedsk : List ℕ) where
   -- the numbers of the secret are residues
-  secret-below : (j : ℕ) → at (storedSecret (setOf set) seedsk) j < setOf set .q
+  secret-below : (j : ℕ) → at (storedSecret p seedsk) j < p .q
   unfolding storedSecret secretDrawn secretSampled
-  secret-below j = uniform-below (setOf set) (initial seedsk) (setOf set .bytpcs) (setOf set .d3) (some-modulus set low) j
+  secret-below j = uniform-below p (initial seedsk) (p .bytpcs) (p .d3) (some-modulus p known) j
 
   -- a drawn secret has the places of the third transform
-  secret-length : isTaken (secretDrawn (setOf set) seedsk) ≡ true → length (storedSecret (setOf set) seedsk) ≡ setOf set .d3
+  secret-length : isTaken (secretDrawn p seedsk) ≡ true → length (storedSecret p seedsk) ≡ p .d3
   unfolding storedSecret secretDrawn secretSampled
-  secret-length t =
-      uniform-length (setOf set) (initial seedsk) (setOf set .bytpcs) (setOf set .d3) _ (taken-numbers (secretDrawn (setOf set) seedsk) t)
+  secret-length t = uniform-length p (initial seedsk) (p .bytpcs) (p .d3) _ (taken-numbers (secretDrawn p seedsk) t)
 
   -- the secret is drawn to the front, the errors after it
-  pub secret-held : (old middle new : List ℕ) (next : State) → length old ≡ workLength (setOf set) → isTaken (secretDrawn (setOf set) seedsk) ≡ true
-      → next ≡ secretState (setOf set) seedsk → middle ≡ over old 0 (storedSecret (setOf set) seedsk)
-      → new ≡ over middle (setOf set .d3) (map (residue (setOf set .q)) (errorsDrawn (setOf set) next)) → SecretHeld (setOf set) seedsk new
+  pub secret-held : (old middle new : List ℕ) (next : State) → length old ≡ workLength p → isTaken (secretDrawn p seedsk) ≡ true
+      → next ≡ secretState p seedsk → middle ≡ over old 0 (storedSecret p seedsk)
+      → new ≡ over middle (p .d3) (map (residue (p .q)) (errorsDrawn p next)) → SecretHeld p seedsk new
   unfolding errors
   secret-held old middle new next size t n first second =
-      let es : List ℕ = map (residue (setOf set .q)) (errorsDrawn (setOf set) next) in
+      let es : List ℕ = map (residue (p .q)) (errorsDrawn p next) in
       let long = secret-length t in
-      let count : length es ≡ errorCount (setOf set) =
-      length-map (errorsDrawn (setOf set) next) (residue (setOf set .q)) ∙ errorsDrawn-length (setOf set) next in
-      let room : vectorsStart (setOf set) ≤ length old = omega (arith, vectors-room set some low) in
-      let front : 0 + length (storedSecret (setOf set) seedsk) ≤ length old = omega (arith, secret-room set some low) in
-      let kept : length middle ≡ length old = ap length first ∙ over-length old 0 (storedSecret (setOf set) seedsk) front in
-      let rest : setOf set .d3 + length es ≤ length middle = omega (arith, secret-room set some low) in
+      let count : length es ≡ errorCount p = length-map (errorsDrawn p next) (residue (p .q)) ∙ errorsDrawn-length p next in
+      let room : vectorsStart p ≤ length old = omega (arith, vectors-room p bytes known) in
+      let front : 0 + length (storedSecret p seedsk) ≤ length old = omega (arith, secret-room p bytes known) in
+      let kept : length middle ≡ length old = ap length first ∙ over-length old 0 (storedSecret p seedsk) front in
+      let rest : p .d3 + length es ≤ length middle = omega (arith, secret-room p bytes known) in
       record {
         secret =
-            ap (λ (xs : List ℕ). region xs 0 (setOf set .d3)) second
-            ∙ region-before middle (setOf set .d3) es 0 (setOf set .d3) rest (omega arith)
-            ∙ ap (λ (xs : List ℕ). region xs 0 (setOf set .d3)) first
-            ∙ region-over-same old 0 (storedSecret (setOf set) seedsk) front (setOf set .d3) long;
+            ap (λ (xs : List ℕ). region xs 0 (p .d3)) second
+            ∙ region-before middle (p .d3) es 0 (p .d3) rest (omega arith)
+            ∙ ap (λ (xs : List ℕ). region xs 0 (p .d3)) first
+            ∙ region-over-same old 0 (storedSecret p seedsk) front (p .d3) long;
         errors-held =
-            ap (λ (xs : List ℕ). region xs (setOf set .d3) (errorCount (setOf set))) second
-            ∙ region-over-same middle (setOf set .d3) es rest (errorCount (setOf set)) count
-            ∙ ap (λ (s : State). map (residue (setOf set .q)) (errorsDrawn (setOf set) s)) n;
+            ap (λ (xs : List ℕ). region xs (p .d3) (errorCount p)) second
+            ∙ region-over-same middle (p .d3) es rest (errorCount p) count
+            ∙ ap (λ (s : State). map (residue (p .q)) (errorsDrawn p s)) n;
       }
 
-  module _ (work : List ℕ) (held : SecretHeld (setOf set) seedsk work) (size : length work ≡ workLength (setOf set)) where
+  module _ (work : List ℕ) (held : SecretHeld p seedsk work) (size : length work ≡ workLength p) where
     -- all of them are residues
-    pub secret-residues : Held (setOf set) work
+    pub secret-residues : Held p work
     secret-residues = record { size = size; residues = record { each = each } }
       where
-        first : (j : ℕ) → j < setOf set .d3 → at work j < setOf set .q
+        first : (j : ℕ) → j < p .d3 → at work j < p .q
         first j h =
-            rw (ap (at work) (sym (zero-add j)) ∙ sym (region-entry work 0 (setOf set .d3) j 0 h) ∙ ap (λ (xs : List ℕ). at xs j) (held .secret))
+            rw (ap (at work) (sym (zero-add j)) ∙ sym (region-entry work 0 (p .d3) j 0 h) ∙ ap (λ (xs : List ℕ). at xs j) (held .secret))
             (secret-below j)
 
-        second : (j : ℕ) → j < errorCount (setOf set) → at work (setOf set .d3 + j) < setOf set .q
+        second : (j : ℕ) → j < errorCount p → at work (p .d3 + j) < p .q
         second j h =
-            rw (sym (region-entry work (setOf set .d3) (errorCount (setOf set)) j 0 h) ∙ ap (λ (xs : List ℕ). at xs j) (held .errors-held)
-            ∙ residues-at (setOf set .q) (errors (setOf set) seedsk) j)
-            (residue-lt (setOf set .q) _ (some-modulus set low))
+            rw (sym (region-entry work (p .d3) (errorCount p) j 0 h) ∙ ap (λ (xs : List ℕ). at xs j) (held .errors-held)
+            ∙ residues-at (p .q) (errors p seedsk) j)
+            (residue-lt (p .q) _ (some-modulus p known))
 
-        each : (j : ℕ) → j < vectorsStart (setOf set) → at work j < setOf set .q
+        each : (j : ℕ) → j < vectorsStart p → at work j < p .q
         each j h =
-            elim (decLt j (setOf set .d3)) [
+            elim (decLt j (p .d3)) [
               | yes l ↦ first j l
               | no l ↦
-                  let place : j ≡ setOf set .d3 + (j - setOf set .d3) = omega arith in
-                  rw place (second (j - setOf set .d3) (omega (arith, secret-room set some low)))
+                  let place : j ≡ p .d3 + (j - p .d3) = omega arith in
+                  rw place (second (j - p .d3) (omega (arith, secret-room p bytes known)))
             ]
 
     -- b̂_i from them
-    vector-is : (seedpk : List ℕ) (i : ℕ) → i < setOf set .t
-        → storedVector (setOf set) seedpk work i ≡ sentInverse (setOf set) 1 (publicVector (setOf set) seedsk seedpk i)
+    vector-is : (seedpk : List ℕ) (i : ℕ) → i < p .t → storedVector p seedpk work i ≡ sentInverse p 1 (publicVector p seedsk seedpk i)
     unfolding storedVector heldVector publicVector secret residueVector
     vector-is seedpk i h =
-        let row : ℕ = setOf set .d + setOf set .k in
-        let part : region work (setOf set .d3 + row * i) row ≡ region (map (residue (setOf set .q)) (errors (setOf set) seedsk)) (row * i) row =
-        sym (region-region work (setOf set .d3) (errorCount (setOf set)) (row * i) row (omega (arith, secret-room set some low, vectors-room set some low))
-        (omega (arith, secret-room set some low, errors-room set some low i h)))
+        let row : ℕ = p .d + p .k in
+        let part : region work (p .d3 + row * i) row ≡ region (map (residue (p .q)) (errors p seedsk)) (row * i) row =
+        sym (region-region work (p .d3) (errorCount p) (row * i) row (omega (arith, secret-room p bytes known, vectors-room p bytes known))
+        (omega (arith, secret-room p bytes known, errors-room p bytes known i h)))
         ∙ ap (λ (xs : List ℕ). region xs (row * i) row) (held .errors-held) in
         rw (held .secret, part)
 
     -- the stored vectors of the public key
-    pub key-stored : (seedpk new : List ℕ) → new ≡ over work (vectorsStart (setOf set)) (joined (setOf set .t) (storedVector (setOf set) seedpk work))
-        → region new (vectorsStart (setOf set)) (setOf set .d1 * setOf set .t)
-        ≡ joined (setOf set .t) (λ i. sentInverse (setOf set) 1 (publicVector (setOf set) seedsk seedpk i))
+    pub key-stored : (seedpk new : List ℕ) → new ≡ over work (vectorsStart p) (joined (p .t) (storedVector p seedpk work))
+        → region new (vectorsStart p) (p .d1 * p .t) ≡ joined (p .t) (λ i. sentInverse p 1 (publicVector p seedsk seedpk i))
     key-stored seedpk new written =
-        let all : List ℕ = joined (setOf set .t) (λ i. sentInverse (setOf set) 1 (publicVector (setOf set) seedsk seedpk i)) in
-        let same : joined (setOf set .t) (storedVector (setOf set) seedpk work) ≡ all = joined-cong (setOf set .t) _ _ (vector-is seedpk) in
-        let count : length all ≡ setOf set .d1 * setOf set .t =
-        joined-length (setOf set .d1) (setOf set .t) _ (λ i h. sentInverse-placed set low 1 _ .size ∙ first-size (setOf set)) in
-        rw (written, same) (region-over-same work (vectorsStart (setOf set)) all (omega (arith, vectors-room set some low)) (setOf set .d1 * setOf set .t)
-        count)
+        let all : List ℕ = joined (p .t) (λ i. sentInverse p 1 (publicVector p seedsk seedpk i)) in
+        let same : joined (p .t) (storedVector p seedpk work) ≡ all = joined-cong (p .t) _ _ (vector-is seedpk) in
+        let count : length all ≡ p .d1 * p .t = joined-length (p .d1) (p .t) _ (λ i h. sentInverse-placed p known 1 _ .size ∙ first-size p) in
+        rw (written, same) (region-over-same work (vectorsStart p) all (omega (arith, vectors-room p bytes known)) (p .d1 * p .t) count)
 
 -- stored vectors may be packed
-pub stored-digits : (set : ℕ) → IsSet set → (f : ℕ → List ℕ) (xs : List ℕ) → xs ≡ joined (setOf set .t) (λ i. sentInverse (setOf set) 1 (f i))
-    → Digit (setOf set .width) xs
-stored-digits set low f xs made k =
-    rw made (joined-each (λ x. x < 2 ^ setOf set .width) 0 (omega (arith, wide)) (setOf set .t) (λ i. sentInverse (setOf set) 1 (f i)) (λ i j h. digit (f i) j)
-    k)
+pub stored-digits : (p : Parameters) → Listed p → (f : ℕ → List ℕ) (xs : List ℕ) → xs ≡ joined (p .t) (λ i. sentInverse p 1 (f i)) → Digit (p .width) xs
+stored-digits p known f xs made k =
+    rw made (joined-each (λ x. x < 2 ^ p .width) 0 (omega (arith, wide)) (p .t) (λ i. sentInverse p 1 (f i)) (λ i j h. digit (f i) j) k)
   where
-    wide : setOf set .q < 2 ^ setOf set .width
-    wide = rules set low .width-enough
+    wide : p .q < 2 ^ p .width
+    wide = listed-rules p known .width-enough
 
-    digit : (ys : List ℕ) (j : ℕ) → at (sentInverse (setOf set) 1 ys) j < 2 ^ setOf set .width
+    digit : (ys : List ℕ) (j : ℕ) → at (sentInverse p 1 ys) j < 2 ^ p .width
     digit ys j =
-        let stored = sentInverse-placed set low 1 ys in
-        elim (decLt j (transformSize (setOf set) 1)) [
+        let stored = sentInverse-placed p known 1 ys in
+        elim (decLt j (transformSize p 1)) [
           | yes l ↦ omega (arith, wide, stored .residues .each j l)
-          | no l ↦ rw (at-past (sentInverse (setOf set) 1 ys) j (omega (arith, stored .size))) (omega (arith, wide))
+          | no l ↦ rw (at-past (sentInverse p 1 ys) j (omega (arith, stored .size))) (omega (arith, wide))
         ]
 
-module _ (seed : List ℕ) {p r : Parameters} {n : ℕ} (e : r ≡ p) (m : n ≡ 32) where
+module _ (p : Parameters) (seed : List ℕ) {n : ℕ} (m : n ≡ 32) where
   -- seedsk
-  pub secret-made : {xs : List ℕ} → xs ≡ output r (initial seed) n .bytes → xs ≡ secretSeed p seed
+  pub secret-made : {xs : List ℕ} → xs ≡ output p (initial seed) n .bytes → xs ≡ secretSeed p seed
   unfolding secretSeed
-  secret-made made = rw (e, m) at made
+  secret-made made = rw m at made
 
   -- seedpk, from the state that the output of seedsk leaves
-  pub public-made : {xs : List ℕ} {o : ℕ} (next : State) → o ≡ 32 → next ≡ output r (initial seed) n .next → xs ≡ output r next o .bytes
+  pub public-made : {xs : List ℕ} {o : ℕ} (next : State) → o ≡ 32 → next ≡ output p (initial seed) n .next → xs ≡ output p next o .bytes
       → xs ≡ publicSeed p seed
   unfolding publicSeed
-  public-made next l moved made = rw (moved, l, e, m) at made
+  public-made next l moved made = rw (moved, l, m) at made
 
 module _ (p : Parameters) (seed seedsk seedpk : List ℕ) (first : seedsk ≡ secretSeed p seed) (second : seedpk ≡ publicSeed p seed) where
   -- the draws from them decide the call

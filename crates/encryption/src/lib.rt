@@ -1,10 +1,11 @@
 // The encryption scheme as open calls for sets 1 to 6: key, encrypt and decrypt (01, How each call answers: Encryption scheme).
 use calls::Answer;
+use sets::Parameters;
 ghost use mathlib.Core.Path.{_≡_};
-ghost use Prim.Native.Nat.{_≤_};
 ghost use lib.ListN.{length};
 ghost use Rattle.calls.specs.Outcome.{outcome, leaves};
-ghost use Rattle.sets.specs.Table.{setOf, IsSet};
+ghost use Rattle.sets.specs.Table.{Listed};
+ghost use Rattle.sets.specs.Rules.{ByteRules};
 ghost use Rattle.sets.specs.Derived.{cpaCiphertextBytes};
 ghost use Rattle.scheme.specs.Encryption.{decryptedMessage};
 ghost use Rattle.scheme.specs.Answers.{workLength, decryptDraws};
@@ -28,9 +29,11 @@ pub fn key(
     ensures cleared { λ _. ⌜ now (work .exit) ≡ encryptionKeyWork set (now (seed .entry))
         (now (public .entry)) (now (secret .entry)) (now (work .entry)) ⌝ }
 {
+    let p = sets::parameters_of(set);
     let checked = scheme_checks::key_checked(
         sets::ENCRYPTION,
         set,
+        p,
         seed.len(),
         public.len(),
         secret.len(),
@@ -39,7 +42,7 @@ pub fn key(
     let Answer::Done = checked else {
         return checked;
     };
-    let answer = cpa_keygen::keygen(set, seed, public, secret, work);
+    let answer = cpa_keygen::keygen(p, seed, public, secret, work);
     calls::clear(work);
     answer
 }
@@ -60,9 +63,11 @@ pub fn encrypt(
     ensures cleared { λ _. ⌜ now (work .exit) ≡ encryptWork set (now (public .entry)) (now (message .entry)) (now (seed .entry))
         (now (ciphertext .entry)) (now (work .entry)) ⌝ }
 {
+    let p = sets::parameters_of(set);
     let checked = scheme_checks::encrypt_checked(
         sets::ENCRYPTION,
         set,
+        p,
         public.len(),
         message.len(),
         seed.len(),
@@ -72,29 +77,29 @@ pub fn encrypt(
     let Answer::Done = checked else {
         return checked;
     };
-    let answer = cpa_encrypt::encrypt(set, public, message, seed, ciphertext, work);
+    let answer = cpa_encrypt::encrypt(p, public, message, seed, ciphertext, work);
     calls::clear(work);
     answer
 }
 
 // Refused with 3 when a number of c1 is q or more, else reads the message.
 fn decrypt_if_below(
-    set: usize,
+    p: Parameters,
     secret: &[u8],
     ciphertext: &[u8],
     message: &mut [u8],
     work: &mut [u32],
 ) -> Answer
-    requires { ⌜ (1 ≤ set) × IsSet set × (length (now secret) ≡ 32) × (length (now ciphertext) ≡ cpaCiphertextBytes (setOf set))
-        × (length (now message) ≡ 32) × (length (now work) ≡ workLength (setOf set)) ⌝ }
-    ensures answer { λ r. ⌜ outcome r ≡ decryptDraws (setOf set) (now (secret .entry)) (now (ciphertext .entry)) ⌝ }
-    ensures read { λ _. ⌜ now (message .exit) ≡ leaves (decryptDraws (setOf set) (now (secret .entry)) (now (ciphertext .entry)))
-        (decryptedMessage (setOf set) (now (secret .entry)) (now (ciphertext .entry))) (now (message .entry)) ⌝ }
+    requires { ⌜ ByteRules p × Listed p × (length (now secret) ≡ 32) × (length (now ciphertext) ≡ cpaCiphertextBytes p)
+        × (length (now message) ≡ 32) × (length (now work) ≡ workLength p) ⌝ }
+    ensures answer { λ r. ⌜ outcome r ≡ decryptDraws p (now (secret .entry)) (now (ciphertext .entry)) ⌝ }
+    ensures read { λ _. ⌜ now (message .exit) ≡ leaves (decryptDraws p (now (secret .entry)) (now (ciphertext .entry)))
+        (decryptedMessage p (now (secret .entry)) (now (ciphertext .entry))) (now (message .entry)) ⌝ }
 {
-    if !cpa_decrypt::first_below(set, ciphertext, work) {
+    if !cpa_decrypt::first_below(p, ciphertext, work) {
         return Answer::Refused(3, 0);
     }
-    cpa_decrypt::decrypt(set, secret, ciphertext, message, work)
+    cpa_decrypt::decrypt(p, secret, ciphertext, message, work)
 }
 
 // The message that a ciphertext is read as, with the secret key.
@@ -112,9 +117,11 @@ pub fn decrypt(
     ensures cleared { λ _. ⌜ now (work .exit) ≡ decryptWork set (now (secret .entry)) (now (ciphertext .entry))
         (now (message .entry)) (now (work .entry)) ⌝ }
 {
+    let p = sets::parameters_of(set);
     let checked = scheme_checks::decrypt_checked(
         sets::ENCRYPTION,
         set,
+        p,
         secret.len(),
         ciphertext.len(),
         message.len(),
@@ -123,7 +130,7 @@ pub fn decrypt(
     let Answer::Done = checked else {
         return checked;
     };
-    let answer = decrypt_if_below(set, secret, ciphertext, message, work);
+    let answer = decrypt_if_below(p, secret, ciphertext, message, work);
     calls::clear(work);
     answer
 }

@@ -27,9 +27,11 @@ pub fn key(
     ensures cleared { λ _. ⌜ now (work .exit) ≡ exchangeKeyWork set (now (seed .entry))
         (now (public .entry)) (now (secret .entry)) (now (work .entry)) ⌝ }
 {
+    let p = sets::parameters_of(set);
     let checked = scheme_checks::key_checked(
         sets::EXCHANGE,
         set,
+        p,
         seed.len(),
         public.len(),
         secret.len(),
@@ -38,7 +40,7 @@ pub fn key(
     let Answer::Done = checked else {
         return checked;
     };
-    let answer = keygen::keygen(set, seed, public, secret, work);
+    let answer = keygen::keygen(p, seed, public, secret, work);
     calls::clear(work);
     answer
 }
@@ -61,9 +63,11 @@ pub fn encapsulate(
     ensures cleared { λ _. ⌜ now (work .exit) ≡ encapsulateWork set (now (public .entry)) (now (message .entry))
         (now (ciphertext .entry)) (now (shared .entry)) (now (work .entry)) ⌝ }
 {
+    let p = sets::parameters_of(set);
     let checked = scheme_checks::encrypt_checked(
         sets::EXCHANGE,
         set,
+        p,
         public.len(),
         message.len(),
         shared.len(),
@@ -73,7 +77,7 @@ pub fn encapsulate(
     let Answer::Done = checked else {
         return checked;
     };
-    let answer = encapsulation::encapsulated_key(set, public, message, ciphertext, shared, work);
+    let answer = encapsulation::encapsulated_key(p, public, message, ciphertext, shared, work);
     calls::clear(work);
     answer
 }
@@ -93,9 +97,11 @@ pub fn decapsulate(
     ensures cleared { λ _. ⌜ now (work .exit) ≡ decapsulateWork set (now (secret .entry)) (now (ciphertext .entry))
         (now (shared .entry)) (now (work .entry)) ⌝ }
 {
+    let p = sets::parameters_of(set);
     let checked = scheme_checks::decrypt_checked(
         sets::EXCHANGE,
         set,
+        p,
         secret.len(),
         ciphertext.len(),
         shared.len(),
@@ -104,7 +110,7 @@ pub fn decapsulate(
     let Answer::Done = checked else {
         return checked;
     };
-    let answer = decapsulation::decapsulated_key(set, secret, ciphertext, shared, work);
+    let answer = decapsulation::decapsulated_key(p, secret, ciphertext, shared, work);
     calls::clear(work);
     answer
 }

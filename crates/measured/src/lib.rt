@@ -13,7 +13,7 @@ pub extern "C" fn measured_table_length(set: usize, i: usize) -> usize
     requires { ⌜ IsSet set ⌝ }
     ensures { λ r. ⌜ r ≡ tableLength (setOf set) i ⌝ }
 {
-    ntt_products::table_length(set, i)
+    ntt_products::table_length(sets::parameters_of(set), i)
 }
 
 // The tables of root number i of a set.
@@ -22,7 +22,7 @@ pub extern "C" fn measured_tables(set: usize, i: usize, out: &mut [u32])
     requires { ⌜ IsSet set × (length (now out) ≡ tableLength (setOf set) i) ⌝ }
     ensures { λ _. ⌜ RootTables (setOf set) i (now (out .exit)) ⌝ }
 {
-    ntt_products::load_tables(set, i, out);
+    ntt_products::load_tables(sets::parameters_of(set), i, out);
 }
 
 // The tables of its inverse.
@@ -31,7 +31,7 @@ pub extern "C" fn measured_inverse_tables(set: usize, i: usize, out: &mut [u32])
     requires { ⌜ IsSet set × (length (now out) ≡ tableLength (setOf set) i) ⌝ }
     ensures { λ _. ⌜ InverseTables (setOf set) i (now (out .exit)) ⌝ }
 {
-    ntt_products::load_inverse_tables(set, i, out);
+    ntt_products::load_inverse_tables(sets::parameters_of(set), i, out);
 }
 
 // The transform of the first n numbers.
@@ -40,7 +40,7 @@ pub extern "C" fn measured_send(set: usize, i: usize, tables: &[u32], x: &mut [u
     requires { ⌜ IsSet set × RootTables (setOf set) i (now tables) × Placed (setOf set) i n (now x) ⌝ }
     ensures { λ _. ⌜ now (x .exit) ≡ sent (setOf set) i (take n (now (x .entry))) ⌝ }
 {
-    ntt_products::send_first(set, i, tables, x, n);
+    ntt_products::send_first(sets::parameters_of(set), i, tables, x, n);
 }
 
 // The first m numbers of the inverse transform.
@@ -50,5 +50,5 @@ pub extern "C" fn measured_recover(set: usize, i: usize, tables: &[u32], x: &mut
         × (m ≤ transformSize (setOf set) i) ⌝ }
     ensures { λ _. ⌜ take m (now (x .exit)) ≡ recovered (setOf set) i m (now (x .entry)) ⌝ }
 {
-    ntt_products::recover_first(set, i, tables, x, m);
+    ntt_products::recover_first(sets::parameters_of(set), i, tables, x, m);
 }

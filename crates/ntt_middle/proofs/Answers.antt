@@ -44,17 +44,18 @@ module _ (set : ℕ) (a b out work : List ℕ) where
   pub refused-early : {answer : Outcome} {number place : ℕ} → answer ≡ checks → answer ≡ refused number place → Ended set a b out work answer out work
   unfolding transformedAnswer transformedLeft middleWorkLeft
   refused-early e told =
-      let whole = lengths-then set (length a) (length b) (length out) (length work) (numbersChecked set a b)
-      ∙ ap (λ (o : Outcome). andThen o (numbersChecked set a b)) (sym e ∙ told) in
+      let whole = lengths-then set (length a) (length b) (length out) (length work) (numbersChecked (setOf set .q) a b)
+      ∙ ap (λ (o : Outcome). andThen o (numbersChecked (setOf set .q) a b)) (sym e ∙ told) in
       (told ∙ sym whole, (sym (leaves-refused _ out whole), sym (leaves-refused _ work (sym e ∙ told))))
 
   -- they pass: the numbers decide, and the work slice is cleared
   pub numbers-decide : checks ≡ accepted → {answer : Outcome} {out′ work′ : List ℕ} {n : ℕ}
-      → answer ≡ numbersChecked set a b → out′ ≡ leaves (numbersChecked set a b) (middleProduct (setOf set .q) a b (length out)) out → work′ ≡ replicate n 0
+      → answer ≡ numbersChecked (setOf set .q) a b
+      → out′ ≡ leaves (numbersChecked (setOf set .q) a b) (middleProduct (setOf set .q) a b (length out)) out → work′ ≡ replicate n 0
       → n ≡ length work
       → Ended set a b out work answer out′ work′
   unfolding transformedAnswer transformedLeft middleWorkLeft
   numbers-decide passed answered left cleared kept =
-      let whole = lengths-then set (length a) (length b) (length out) (length work) (numbersChecked set a b)
-      ∙ ap (λ (o : Outcome). andThen o (numbersChecked set a b)) passed in
+      let whole = lengths-then set (length a) (length b) (length out) (length work) (numbersChecked (setOf set .q) a b)
+      ∙ ap (λ (o : Outcome). andThen o (numbersChecked (setOf set .q) a b)) passed in
       (answered ∙ sym whole, (rw whole left, cleared ∙ rw kept (sym (leaves-accepted _ work passed))))

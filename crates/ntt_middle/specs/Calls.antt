@@ -12,11 +12,11 @@ use Rattle.ntt_middle_checks.specs.Checks.{lengthsChecked}
 
 -- the check of the numbers, their places counted through a, then b
 unfoldable pub numbersChecked : ℕ → List ℕ → List ℕ → Outcome
-numbersChecked set a b = refuseFirst (below (setOf set .q)) 0 0 (a ++ b) accepted
+numbersChecked q a b = refuseFirst (below q) 0 0 (a ++ b) accepted
 
 -- what the call answers
 unfoldable pub transformedAnswer : ℕ → List ℕ → List ℕ → ℕ → ℕ → Outcome
-transformedAnswer set a b d work = lengthsChecked set (length a) (length b) d work (numbersChecked set a b)
+transformedAnswer set a b d work = lengthsChecked set (length a) (length b) d work (numbersChecked (setOf set .q) a b)
 
 -- what it leaves in the output
 unfoldable pub transformedLeft : ℕ → List ℕ → List ℕ → List ℕ → ℕ → List ℕ

@@ -7,6 +7,7 @@ ghost use Rattle.maths.specs.Vector.{at, tabulate};
 ghost use Rattle.calls.specs.Outcome.{outcome, accepted};
 ghost use Rattle.calls.specs.Checks.{allOf};
 ghost use Rattle.calls.specs.Region.{over};
+ghost use Rattle.sets.specs.Table.{setOf};
 ghost use Rattle.ntt_middle_checks.specs.Checks.{transformedShape, lengthsChecked};
 
 // Whether the lengths of a middle product of `a` and `b` numbers with `d` results fit each other, and the work slice has its size.
@@ -19,15 +20,15 @@ fn lengths_fit(size: usize, a: usize, b: usize, d: usize, work: usize) -> bool
     middle::lengths_fit(a, b, d)
 }
 
-// Refused with 1 where there is no such set, with 6 where a length does not fit, with 7 where `b` is longer than the largest transform.
-pub fn lengths_checked(set: usize, a: usize, b: usize, d: usize, work: usize) -> Answer
+// Refused with 1 where there is no such set, with 6 where a length does not fit, with 7 where `b` is longer than the largest transform, whose size is
+// handed over.
+pub fn lengths_checked(set: usize, size: usize, a: usize, b: usize, d: usize, work: usize) -> Answer
+    requires { ⌜ size ≡ setOf set .d3 ⌝ }
     ensures { λ r. ⌜ outcome r ≡ lengthsChecked set a b d work accepted ⌝ }
 {
     if sets::LAST < set {
         return Answer::Refused(1, 0);
     }
-    let p = sets::parameters_of(set);
-    let size = p.d3;
     if !lengths_fit(size, a, b, d, work) {
         return Answer::Refused(6, 0);
     }

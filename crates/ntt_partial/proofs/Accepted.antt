@@ -13,7 +13,7 @@ use Rattle.maths.specs.Transform.{send, recover}
 use Rattle.calls.specs.Outcome.{accepted}
 use Rattle.calls.proofs.Outcome.{refuse-accepted}
 use Rattle.sets.specs.Table.{lastSet, noSet, setOf, IsSet}
-use Rattle.sets.proofs.Rules.{byteRules}
+use Rattle.sets.proofs.Rules.{byteRules, listed-set}
 use Rattle.middle.proofs.Chained.{accepted-one}
 use Rattle.ntt_products.specs.Stored.{rowCount, sent, recovered}
 use Rattle.ntt_products.proofs.Laws.{size-rows}
@@ -58,7 +58,7 @@ module _ (set D1 D2 m : ℕ) (input : List ℕ) (places : ℕ) where
 -- an accepted size is at most 3,328, and m rows fit it
 module _ {set D1 D2 m places : ℕ} {input : List ℕ} (call : Accepted set D1 D2 m input places) where
   pub rows-few : D1 * D2 ≤ 3328
-  rows-few = size-few (call .low) (call .split)
+  rows-few = size-few (listed-set _ (call .low)) (call .split)
 
   pub rows-within : m * D2 ≤ D1 * D2
   rows-within = mul-le-mul-right D2 (call .split .within)
@@ -84,7 +84,7 @@ module _ {set D1 D2 m places : ℕ} {input : List ℕ} (call : Accepted set D1 D
   wide-row = byteRules set (call .some) (call .low) .row-256
 
   wide-count : rowCount (setOf set) (sizeNumber (setOf set) (D1 * D2)) ≡ D1
-  wide-count = count-of wide-row wide (size-rows set (call .low) (sizeNumber (setOf set) (D1 * D2))) (call .split .size)
+  wide-count = count-of wide-row wide (size-rows (setOf set) (listed-set set (call .low)) (sizeNumber (setOf set) (D1 * D2))) (call .split .size)
 
   pub call-wide : Wide (setOf set) (sizeNumber (setOf set) (D1 * D2)) m input
   call-wide =

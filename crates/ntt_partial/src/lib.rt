@@ -19,16 +19,17 @@ pub fn forward(
     ensures answer { λ r. ⌜ outcome r ≡ partialAnswer set rows row m (now (input .entry)) (length (now (out .entry))) ⌝ }
     ensures left { λ _. ⌜ now (out .exit) ≡ partialLeft set rows row m (now (input .entry)) (now (out .entry)) ⌝ }
 {
-    let answer = ntt_partial_checks::checked(set, rows, row, m, input, out.len());
+    let p = sets::parameters_of(set);
+    let answer = ntt_partial_checks::checked(set, p, rows, row, m, input, out.len());
     let Answer::Done = answer else {
         return answer;
     };
-    let i = ntt_partial_checks::size_number(sets::parameters_of(set), rows, row);
+    let i = ntt_partial_checks::size_number(p, rows, row);
     if row == 256 {
-        ntt_partial_steps::forward_wide(set, i, m, input, out);
+        ntt_partial_steps::forward_wide(p, i, m, input, out);
         return Answer::Done;
     }
-    ntt_partial_steps::forward_plain(set, i, rows, row, m, input, out);
+    ntt_partial_steps::forward_plain(p, i, rows, row, m, input, out);
     Answer::Done
 }
 
@@ -44,16 +45,17 @@ pub fn inverse(
     ensures answer { λ r. ⌜ outcome r ≡ partialAnswer set rows row m (now (input .entry)) (length (now (out .entry))) ⌝ }
     ensures left { λ _. ⌜ now (out .exit) ≡ partialInverseLeft set rows row m (now (input .entry)) (now (out .entry)) ⌝ }
 {
-    let answer = ntt_partial_checks::checked(set, rows, row, m, input, out.len());
+    let p = sets::parameters_of(set);
+    let answer = ntt_partial_checks::checked(set, p, rows, row, m, input, out.len());
     let Answer::Done = answer else {
         return answer;
     };
-    let i = ntt_partial_checks::size_number(sets::parameters_of(set), rows, row);
+    let i = ntt_partial_checks::size_number(p, rows, row);
     let end = m * row;
     if row == 256 {
-        ntt_partial_steps::inverse_wide(set, i, m, input, &mut out[0..end]);
+        ntt_partial_steps::inverse_wide(p, i, m, input, &mut out[0..end]);
         return Answer::Done;
     }
-    ntt_partial_steps::inverse_plain(set, i, rows, row, m, input, &mut out[0..end]);
+    ntt_partial_steps::inverse_plain(p, i, rows, row, m, input, &mut out[0..end]);
     Answer::Done
 }

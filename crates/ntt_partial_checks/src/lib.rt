@@ -4,6 +4,7 @@ use sets::Parameters;
 ghost use mathlib.Core.Path.{_≡_};
 ghost use Prim.Native.Nat.{_*_};
 ghost use Rattle.calls.specs.Outcome.{outcome};
+ghost use Rattle.sets.specs.Table.{setOf};
 ghost use Rattle.sets.specs.Rules.{Rules};
 ghost use Rattle.ntt_partial_checks.specs.Checks.{sizeNumber, partialAnswer};
 
@@ -31,12 +32,14 @@ pub fn size_number(p: Parameters, rows: usize, row: usize) -> usize
 // The checks of both calls, in the order 1, 11, 12, 2, 3; `places` is the length of the output.
 pub fn checked(
     set: usize,
+    p: Parameters,
     rows: usize,
     row: usize,
     m: usize,
     input: &[u32],
     places: usize,
 ) -> Answer
+    requires { ⌜ p ≡ setOf set ⌝ }
     ensures { λ r. ⌜ outcome r ≡ partialAnswer set rows row m (now (input .entry)) places ⌝ }
 {
     if set < 1 {
@@ -51,7 +54,6 @@ pub fn checked(
     if rows < m {
         return Answer::Refused(11, 0);
     }
-    let p = sets::parameters_of(set);
     if size_number(p, rows, row) == 0 {
         return Answer::Refused(12, 0);
     }

@@ -11,8 +11,8 @@ use Rattle.maths.specs.Vector.{at, AllBelow}
 use Rattle.maths.specs.Root.{powerTable}
 use Rattle.maths.proofs.PowerTable.{powerTable-length, powerTable-at}
 use Rattle.sets.specs.declared.Parameters.{Parameters}
-use Rattle.sets.specs.Table.{setOf, IsSet}
-use Rattle.sets.proofs.Rules.{rules}
+use Rattle.sets.specs.Table.{Listed}
+use Rattle.sets.proofs.Rules.{listed-rules}
 use Rattle.sets.proofs.Transforms.{size-most}
 use Rattle.ntt_plain.specs.Plain.{Plain}
 use Rattle.ntt_products.proofs.Laws.{rules-odd, least-size}
@@ -29,13 +29,13 @@ some-second : (a b n : ℕ) → a * b ≡ n → 0 < n → 0 < b
 some-second a zero n e h = let none : a * 0 ≡ 0 = mul-zero a in absurd (omega arith)
 some-second a (suc b) n e h = omega arith
 
-module _ {set i D1 D2 m : ℕ} {input : List ℕ} (low : IsSet set) (split : Split (setOf set) i D1 D2 m input) where
+module _ {p : Parameters} {i D1 D2 m : ℕ} {input : List ℕ} (known : Listed p) (split : Split p i D1 D2 m input) where
   -- the size
   pub size-few : D1 * D2 ≤ 3328
-  size-few = rw (split .size) (size-most set low i)
+  size-few = rw (split .size) (size-most p (listed-rules p known) i)
 
   pub some-columns : 0 < D2
-  some-columns = some-second D1 D2 _ (split .size) (omega (arith, least-size (setOf set) (rules set low) i))
+  some-columns = some-second D1 D2 _ (split .size) (omega (arith, least-size p (listed-rules p known) i))
 
   -- a row is at most all rows
   columns-fit : D2 ≤ D1 * D2
@@ -52,12 +52,12 @@ module _ {set i D1 D2 m : ℕ} {input : List ℕ} (low : IsSet set) (split : Spl
   front-length = length-take-le (m * D2) input rows-fit
 
   -- residues in rows, with the powers of a root
-  plain-of : (powers x : List ℕ) (w : ℕ) → powers ≡ powerTable (setOf set .q) w (D1 * D2) → length x ≤ D1 * D2 → AllBelow (setOf set .q) (length x) x
-      → Plain (setOf set .q) D2 powers x
+  plain-of : (powers x : List ℕ) (w : ℕ) → powers ≡ powerTable (p .q) w (D1 * D2) → length x ≤ D1 * D2 → AllBelow (p .q) (length x) x
+      → Plain (p .q) D2 powers x
   plain-of powers x w table fits below =
-      let long : length powers ≡ D1 * D2 = ap length table ∙ powerTable-length (setOf set .q) w (D1 * D2) in
+      let long : length powers ≡ D1 * D2 = ap length table ∙ powerTable-length (p .q) w (D1 * D2) in
       record {
-        modulus = rules-odd (setOf set) (rules set low);
+        modulus = rules-odd p (listed-rules p known);
         some-columns = some-columns;
         columns-fit = rw long columns-fit;
         size = rw long fits;
@@ -65,11 +65,11 @@ module _ {set i D1 D2 m : ℕ} {input : List ℕ} (low : IsSet set) (split : Spl
         numbers = record { each = λ j h. omega (arith, below .each j h) };
         factors = record {
           each = λ j h.
-              rw (table, powerTable-at (setOf set .q) w (D1 * D2) j (rw long at h)) (mod-lt _ (omega (arith, rules set low .prime .above)));
+              rw (table, powerTable-at (p .q) w (D1 * D2) j (rw long at h)) (mod-lt _ (omega (arith, listed-rules p known .prime .above)));
         };
       }
 
-  pub plain-front : {powers : List ℕ} (w : ℕ) → powers ≡ powerTable (setOf set .q) w (D1 * D2) → Plain (setOf set .q) D2 powers (take (m * D2) input)
+  pub plain-front : {powers : List ℕ} (w : ℕ) → powers ≡ powerTable (p .q) w (D1 * D2) → Plain (p .q) D2 powers (take (m * D2) input)
   plain-front w table =
       plain-of _ (take (m * D2) input) w table (rw front-length (rw (split .places) at rows-fit))
       (record {
@@ -78,7 +78,7 @@ module _ {set i D1 D2 m : ℕ} {input : List ℕ} (low : IsSet set) (split : Spl
             rw (getD-take (m * D2) input j 0 near) (split .residues .each j (omega (arith, rows-fit)));
       })
 
-  pub plain-whole : {powers : List ℕ} (w : ℕ) → powers ≡ powerTable (setOf set .q) w (D1 * D2) → Plain (setOf set .q) D2 powers input
+  pub plain-whole : {powers : List ℕ} (w : ℕ) → powers ≡ powerTable (p .q) w (D1 * D2) → Plain (p .q) D2 powers input
   plain-whole w table = plain-of _ input w table (omega (arith, split .places)) (split .residues)
 
 -- as many numbers as are recovered

@@ -9,14 +9,14 @@ use lib.ListN.{length}
 use Rattle.calls.specs.Region.{over}
 use Rattle.calls.proofs.Region.{over-inside, over-length}
 use Rattle.maths.specs.Vector.{AllBelow}
-use Rattle.sets.specs.Table.{setOf}
+use Rattle.sets.specs.declared.Parameters.{Parameters}
 use Rattle.sets.specs.Derived.{transformSize}
 use Rattle.ntt_products.specs.Placed.{Placed}
 
-pub front-placed : (set i : ℕ) (xs ys : List ℕ) → length xs ≡ transformSize (setOf set) i → length ys ≤ transformSize (setOf set) i
-    → AllBelow (setOf set .q) (length ys) ys
-    → Placed (setOf set) i (length ys) (over xs 0 ys)
-front-placed set i xs ys size fits below =
+pub front-placed : (p : Parameters) (i : ℕ) (xs ys : List ℕ) → length xs ≡ transformSize p i → length ys ≤ transformSize p i
+    → AllBelow (p .q) (length ys) ys
+    → Placed p i (length ys) (over xs 0 ys)
+front-placed p i xs ys size fits below =
     let room : 0 + length ys ≤ length xs = omega arith in
     record {
       size = over-length xs 0 ys room ∙ size;

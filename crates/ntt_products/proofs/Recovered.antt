@@ -9,25 +9,26 @@ use Rattle.maths.specs.Vector.{at}
 use Rattle.maths.specs.Transform as transforms
 use Rattle.maths.proofs.Vector.{tabulate-take}
 use Rattle.maths.proofs.Transform.{recover-send-at}
-use Rattle.sets.specs.Table.{setOf, IsSet}
+use Rattle.sets.specs.declared.Parameters.{Parameters}
+use Rattle.sets.specs.Table.{Listed}
 use Rattle.sets.specs.Derived.{transformSize}
 use Rattle.ntt_products.specs.Stored.{rowCount, sentInverse, recoveredInverse, recovered}
 use Rattle.ntt_products.proofs.Sizes.{size-rows, rows-root-inverse}
 
-module _ (set : ℕ) (low : IsSet set) (i m : ℕ) (xs : List ℕ) where
+module _ (p : Parameters) (known : Listed p) (i m : ℕ) (xs : List ℕ) where
   -- a number of a vector that was stored with the inverse of the root
-  pub recoveredInverse-at : (j : ℕ) → j < m → j < transformSize (setOf set) i
-      → at (recoveredInverse (setOf set) i m (sentInverse (setOf set) i xs)) j ≡ at xs j % setOf set .q
+  pub recoveredInverse-at : (j : ℕ) → j < m → j < transformSize p i
+      → at (recoveredInverse p i m (sentInverse p i xs)) j ≡ at xs j % p .q
   unfolding sentInverse recoveredInverse
   recoveredInverse-at j h k =
-      recover-send-at (setOf set .row) (rowCount (setOf set) i) (rows-root-inverse set low i) m xs j h (omega (arith, size-rows set low i))
+      recover-send-at (p .row) (rowCount p i) (rows-root-inverse p known i) m xs j h (omega (arith, size-rows p known i))
 
 -- the first m of all numbers that are recovered
-module _ (set i m : ℕ) (xs : List ℕ) (fits : m ≤ transformSize (setOf set) i) where
-  pub recoveredInverse-take : take m (recoveredInverse (setOf set) i (transformSize (setOf set) i) xs) ≡ recoveredInverse (setOf set) i m xs
+module _ (p : Parameters) (i m : ℕ) (xs : List ℕ) (fits : m ≤ transformSize p i) where
+  pub recoveredInverse-take : take m (recoveredInverse p i (transformSize p i) xs) ≡ recoveredInverse p i m xs
   unfolding recoveredInverse transforms.recover
-  recoveredInverse-take = tabulate-take m (transformSize (setOf set) i) _ fits
+  recoveredInverse-take = tabulate-take m (transformSize p i) _ fits
 
-  pub recovered-take : take m (recovered (setOf set) i (transformSize (setOf set) i) xs) ≡ recovered (setOf set) i m xs
+  pub recovered-take : take m (recovered p i (transformSize p i) xs) ≡ recovered p i m xs
   unfolding recovered transforms.recover
-  recovered-take = tabulate-take m (transformSize (setOf set) i) _ fits
+  recovered-take = tabulate-take m (transformSize p i) _ fits

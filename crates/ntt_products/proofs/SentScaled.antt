@@ -13,8 +13,9 @@ use Rattle.maths.proofs.Congruence.{mod-refl, mod-mul, mod-remainder}
 use Rattle.calls.specs.Region.{over}
 use Rattle.calls.proofs.Region.{over-lent}
 use Rattle.calls.proofs.Parts.{front}
-use Rattle.sets.specs.Table.{setOf, IsSet}
-use Rattle.sets.proofs.Rules.{rules}
+use Rattle.sets.specs.declared.Parameters.{Parameters}
+use Rattle.sets.specs.Table.{Listed}
+use Rattle.sets.proofs.Rules.{listed-rules}
 use Rattle.montgomery.specs.Scaled.{scale, unscale, Odd}
 use Rattle.montgomery.proofs.Laws.{unscale-power}
 use Rattle.ntt_products.specs.Stored.{sent}
@@ -41,35 +42,35 @@ scaled-front {q} o n by xs ys e fits made =
     let size : length ys ≡ n = ap length is ∙ length-map (take n xs) (scale q) ∙ length-take-le n xs fits in
     over-lent xs 0 ys n (omega arith) ∙ ap (over xs 0) is
 
-module _ (set : ℕ) (low : IsSet set) (i n : ℕ) (xs : List ℕ) (placed : Placed (setOf set) i n xs) where
+module _ (p : Parameters) (known : Listed p) (i n : ℕ) (xs : List ℕ) (placed : Placed p i n xs) where
   -- there are n numbers in scaled form
-  scaled-size : length (map (scale (setOf set .q)) (take n xs)) ≡ n
-  scaled-size = length-map (take n xs) (scale (setOf set .q)) ∙ length-take-le n xs (omega (arith, placed .size, placed .inside))
+  scaled-size : length (map (scale (p .q)) (take n xs)) ≡ n
+  scaled-size = length-map (take n xs) (scale (p .q)) ∙ length-take-le n xs (omega (arith, placed .size, placed .inside))
 
   -- each is a residue
-  scaled-below : AllBelow (setOf set .q) (length (map (scale (setOf set .q)) (take n xs))) (map (scale (setOf set .q)) (take n xs))
+  scaled-below : AllBelow (p .q) (length (map (scale (p .q)) (take n xs))) (map (scale (p .q)) (take n xs))
   unfolding scale
   scaled-below =
       record {
-        each = λ k h. rw (map-at (scale (setOf set .q)) (take n xs) k (omega (arith, length-map (take n xs) (scale (setOf set .q)))))
-            (mod-lt _ (omega (arith, rules set low .prime .above)));
+        each = λ k h. rw (map-at (scale (p .q)) (take n xs) k (omega (arith, length-map (take n xs) (scale (p .q)))))
+            (mod-lt _ (omega (arith, listed-rules p known .prime .above)));
       }
 
   -- the front in scaled form may be sent
-  pub scaled-placed : Placed (setOf set) i n (over xs 0 (map (scale (setOf set .q)) (take n xs)))
+  pub scaled-placed : Placed p i n (over xs 0 (map (scale (p .q)) (take n xs)))
   scaled-placed =
       rw scaled-size at
-      (front-placed set i xs (map (scale (setOf set .q)) (take n xs)) (placed .size) (omega (arith, scaled-size, placed .inside)) scaled-below)
+      (front-placed p i xs (map (scale (p .q)) (take n xs)) (placed .size) (omega (arith, scaled-size, placed .inside)) scaled-below)
 
   -- and is sent in scaled form
-  pub sent-scaled : (x : List ℕ) → x ≡ sent (setOf set) i (take n (over xs 0 (map (scale (setOf set .q)) (take n xs))))
-      → SentScaled (setOf set) i (take n xs) x
+  pub sent-scaled : (x : List ℕ) → x ≡ sent p i (take n (over xs 0 (map (scale (p .q)) (take n xs))))
+      → SentScaled p i (take n xs) x
   unfolding sent
   sent-scaled x made =
-      let scaled = map (scale (setOf set .q)) (take n xs) in
-      let whole : x ≡ sent (setOf set) i scaled =
-      made ∙ ap (sent (setOf set) i) (rw scaled-size at (front xs scaled (omega (arith, scaled-size, placed .size, placed .inside)))) in
+      let scaled = map (scale (p .q)) (take n xs) in
+      let whole : x ≡ sent p i scaled =
+      made ∙ ap (sent p i) (rw scaled-size at (front xs scaled (omega (arith, scaled-size, placed .size, placed .inside)))) in
       record {
-        placed = rw whole (sent-placed set low i scaled);
-        unscaled-is = rw whole (send-scaled (rules-odd (setOf set) (rules set low)) _ _ _ (take n xs));
+        placed = rw whole (sent-placed p known i scaled);
+        unscaled-is = rw whole (send-scaled (rules-odd p (listed-rules p known)) _ _ _ (take n xs));
       }

@@ -20,12 +20,12 @@ use Rattle.montgomery.specs.Scaled.{Odd}
 use Rattle.ntt_tables.specs.Inverted.{InvertedTable}
 use Rattle.ntt_by_row.specs.Lent.{Sizes, OrderedPowers}
 use Rattle.sets.specs.declared.Parameters.{Parameters}
-use Rattle.sets.specs.Table.{table, setOf, IsSet}
+use Rattle.sets.specs.Table.{table, setOf, Listed}
 use Rattle.sets.specs.Derived.{transformSize, transformRoot, rootPowers}
-use Rattle.sets.specs.Rules.{Rules}
-use Rattle.sets.proofs.Rules.{rules, byteRules}
+use Rattle.sets.specs.Rules.{Rules, ByteRules}
+use Rattle.sets.proofs.Rules.{listed-rules, listed-cases}
 use Rattle.sets.proofs.Transforms.{by-size, size-most}
-use Rattle.roots.proofs.Roots.{root}
+use Rattle.roots.proofs.Laws.{listed-root}
 use Rattle.ntt_products.specs.Stored.{rowCount, rootInverse, sizeInverse, inversePowers}
 
 -- the front of a list whose front was lent and came back as ys
@@ -86,108 +86,112 @@ module _ (p : Parameters) (kept : Rules p) (i : ℕ) where
 pub rules-odd : (p : Parameters) → Rules p → Odd (p .q)
 rules-odd p kept = record { odd = omega (arith, kept .odd); some = kept .prime .above; small = kept .small }
 
-module _ (set : ℕ) (low : IsSet set) (i : ℕ) where
+module _ (p : Parameters) (known : Listed p) (i : ℕ) where
   -- the rows together have the size
-  pub size-rows : rowCount (setOf set) i * setOf set .row ≡ transformSize (setOf set) i
-  size-rows = rows-size (setOf set) (rules set low) i
+  pub size-rows : rowCount p i * p .row ≡ transformSize p i
+  size-rows = rows-size p (listed-rules p known) i
 
   -- the modulus
-  pub some-modulus : 1 < setOf set .q
-  some-modulus = rules set low .prime .above
+  pub some-modulus : 1 < p .q
+  some-modulus = listed-rules p known .prime .above
 
   -- the root has the order of all rows together
-  pub rows-root : Root (setOf set .q) (rowCount (setOf set) i * setOf set .row) (transformRoot (setOf set) i) (rootInverse (setOf set) i)
-      (sizeInverse (setOf set) i)
+  pub rows-root : Root (p .q) (rowCount p i * p .row) (transformRoot p i) (rootInverse p i)
+      (sizeInverse p i)
   unfolding rootInverse sizeInverse
-  rows-root = rw size-rows (root set low i)
+  rows-root = rw size-rows (listed-root p known i)
 
   -- and so has its inverse
-  pub rows-root-inverse : Root (setOf set .q) (rowCount (setOf set) i * setOf set .row) (rootInverse (setOf set) i) (transformRoot (setOf set) i)
-      (sizeInverse (setOf set) i)
+  pub rows-root-inverse : Root (p .q) (rowCount p i * p .row) (rootInverse p i) (transformRoot p i)
+      (sizeInverse p i)
   rows-root-inverse = root-inverse rows-root
 
 -- the sets but set 0 have rows of 256 numbers
-row-cases : (set : ℕ) → IsSet set → (setOf set .row ≡ 256) ⊎ (setOf set .row ≡ 1)
-row-cases zero low = inr bench-row
-row-cases (suc s) low = inl (byteRules (suc s) (omega arith) low .row-256)
+row-cases : (p : Parameters) → Listed p → (p .row ≡ 256) ⊎ (p .row ≡ 1)
+row-cases p known = cases (listed-cases p known)
+  where
+    cases : (p ≡ setOf 0) ⊎ ByteRules p → (p .row ≡ 256) ⊎ (p .row ≡ 1)
+    cases (inl e) = inr (rw e bench-row)
+    cases (inr bytes) = inl (bytes .row-256)
 
 -- there are few rows
-few : (set : ℕ) → IsSet set → (i : ℕ) → rowCount (setOf set) i ≤ 16
-few zero low i = bench-rows i
-few (suc s) low i =
-    few-rows (transformSize (setOf (suc s)) i) (setOf (suc s) .row) (byteRules (suc s) (omega arith) low .row-256) (size-most (suc s) low i)
+few : (p : Parameters) → Listed p → (i : ℕ) → rowCount p i ≤ 16
+few p known i = cases (listed-cases p known)
+  where
+    cases : (p ≡ setOf 0) ⊎ ByteRules p → rowCount p i ≤ 16
+    cases (inl e) = rw e (bench-rows i)
+    cases (inr bytes) = few-rows (transformSize p i) (p .row) (bytes .row-256) (size-most p (listed-rules p known) i)
 
-module _ (set : ℕ) (low : IsSet set) (i : ℕ) where
+module _ (p : Parameters) (known : Listed p) (i : ℕ) where
   -- the sizes of the transforms
-  pub sizes : Sizes (setOf set .q) (setOf set .row) (rowCount (setOf set) i)
+  pub sizes : Sizes (p .q) (p .row) (rowCount p i)
   sizes =
       record {
-        modulus = rules-odd (setOf set) (rules set low);
-        some-rows = some-factor (rowCount (setOf set) i) (setOf set .row) (transformSize (setOf set) i) (size-rows set low i) (omega
-            (arith, least-size (setOf set) (rules set low) i));
-        few-rows = few set low i;
-        row = row-cases set low;
+        modulus = rules-odd p (listed-rules p known);
+        some-rows = some-factor (rowCount p i) (p .row) (transformSize p i) (size-rows p known i) (omega
+            (arith, least-size p (listed-rules p known) i));
+        few-rows = few p known i;
+        row = row-cases p known;
       }
 
   -- the powers of a root of the size's order, of which the table is made
-  ordered : {w v e : ℕ} {tables : List ℕ} → Root (setOf set .q) (rowCount (setOf set) i * setOf set .row) w v e
-      → region tables 0 (transformSize (setOf set) i) ≡ powerTable (setOf set .q) w (transformSize (setOf set) i)
-      → OrderedPowers (setOf set .q) (setOf set .row) (rowCount (setOf set) i) w tables
-  ordered r table = record { table = rw (size-rows set low i) table; whole = r .power; half = half-power r }
+  ordered : {w v e : ℕ} {tables : List ℕ} → Root (p .q) (rowCount p i * p .row) w v e
+      → region tables 0 (transformSize p i) ≡ powerTable (p .q) w (transformSize p i)
+      → OrderedPowers (p .q) (p .row) (rowCount p i) w tables
+  ordered r table = record { table = rw (size-rows p known i) table; whole = r .power; half = half-power r }
 
   -- a table of powers has residues alone
-  pub table-below : (w : ℕ) {tables : List ℕ} → region tables 0 (transformSize (setOf set) i) ≡ powerTable (setOf set .q) w (transformSize (setOf set) i)
-      → AllBelow (setOf set .q) (rowCount (setOf set) i * setOf set .row) tables
+  pub table-below : (w : ℕ) {tables : List ℕ} → region tables 0 (transformSize p i) ≡ powerTable (p .q) w (transformSize p i)
+      → AllBelow (p .q) (rowCount p i * p .row) tables
   table-below w {tables} table =
-      rw (size-rows set low i)
+      rw (size-rows p known i)
       (record {
         each = λ j h.
             rw (
               ← zero-add j,
-              ← region-entry tables 0 (transformSize (setOf set) i) j 0 h,
+              ← region-entry tables 0 (transformSize p i) j 0 h,
               table,
-              powerTable-at (setOf set .q) w (transformSize
-                  (setOf set) i) j h,
+              powerTable-at (p .q) w (transformSize p i) j h,
             )
-            (mod-lt _ (omega (arith, some-modulus set low i)));
+            (mod-lt _ (omega (arith, some-modulus p known i)));
       })
 
   -- the tables of the root
-  pub root-ordered : {tables : List ℕ} → region tables 0 (transformSize (setOf set) i) ≡ rootPowers (setOf set) i
-      → OrderedPowers (setOf set .q) (setOf set .row) (rowCount (setOf set) i) (transformRoot (setOf set) i) tables
+  pub root-ordered : {tables : List ℕ} → region tables 0 (transformSize p i) ≡ rootPowers p i
+      → OrderedPowers (p .q) (p .row) (rowCount p i) (transformRoot p i) tables
   unfolding rootPowers
-  root-ordered table = ordered (rows-root set low i) table
+  root-ordered table = ordered (rows-root p known i) table
 
-  pub root-below : {tables : List ℕ} → region tables 0 (transformSize (setOf set) i) ≡ rootPowers (setOf set) i
-      → AllBelow (setOf set .q) (rowCount (setOf set) i * setOf set .row) tables
+  pub root-below : {tables : List ℕ} → region tables 0 (transformSize p i) ≡ rootPowers p i
+      → AllBelow (p .q) (rowCount p i * p .row) tables
   unfolding rootPowers
-  root-below table = table-below (transformRoot (setOf set) i) table
+  root-below table = table-below (transformRoot p i) table
 
   -- and of its inverse
-  pub inverse-ordered : {tables : List ℕ} → region tables 0 (transformSize (setOf set) i) ≡ inversePowers (setOf set) i
-      → OrderedPowers (setOf set .q) (setOf set .row) (rowCount (setOf set) i) (rootInverse (setOf set) i) tables
+  pub inverse-ordered : {tables : List ℕ} → region tables 0 (transformSize p i) ≡ inversePowers p i
+      → OrderedPowers (p .q) (p .row) (rowCount p i) (rootInverse p i) tables
   unfolding inversePowers
-  inverse-ordered table = ordered (rows-root-inverse set low i) table
+  inverse-ordered table = ordered (rows-root-inverse p known i) table
 
-  pub inverse-powers-below : {tables : List ℕ} → region tables 0 (transformSize (setOf set) i) ≡ inversePowers (setOf set) i
-      → AllBelow (setOf set .q) (rowCount (setOf set) i * setOf set .row) tables
+  pub inverse-powers-below : {tables : List ℕ} → region tables 0 (transformSize p i) ≡ inversePowers p i
+      → AllBelow (p .q) (rowCount p i * p .row) tables
   unfolding inversePowers
-  inverse-powers-below table = table-below (rootInverse (setOf set) i) table
+  inverse-powers-below table = table-below (rootInverse p i) table
 
 -- the powers of a root are as many as its transform has places
-pub rootPowers-length : (set i : ℕ) → length (rootPowers (setOf set) i) ≡ transformSize (setOf set) i
+pub rootPowers-length : (p : Parameters) (i : ℕ) → length (rootPowers p i) ≡ transformSize p i
 unfolding rootPowers
-rootPowers-length set i = powerTable-length _ _ _
+rootPowers-length p i = powerTable-length _ _ _
 
-pub inversePowers-length : (set i : ℕ) → length (inversePowers (setOf set) i) ≡ transformSize (setOf set) i
+pub inversePowers-length : (p : Parameters) (i : ℕ) → length (inversePowers p i) ≡ transformSize p i
 unfolding inversePowers
-inversePowers-length set i = powerTable-length _ _ _
+inversePowers-length p i = powerTable-length _ _ _
 
 -- the table of the root, inverted, is that of its inverse
-pub inverted-powers : (set : ℕ) (low : IsSet set) (i : ℕ) {old new : List ℕ} → old ≡ rootPowers (setOf set) i → InvertedTable old new
-    → new ≡ inversePowers (setOf set) i
+pub inverted-powers : (p : Parameters) (known : Listed p) (i : ℕ) {old new : List ℕ} → old ≡ rootPowers p i → InvertedTable old new
+    → new ≡ inversePowers p i
 unfolding rootPowers inversePowers rootInverse
-inverted-powers set low i {old} e inverted =
-    let size : length old ≡ transformSize (setOf set) i = rw e (powerTable-length (setOf set .q) (transformRoot (setOf set) i) (transformSize (setOf set) i)) in
-    rw size at (inverted .table (setOf set .q) (transformRoot (setOf set) i) (rootInverse (setOf set) i)
-    (inverseSize (setOf set .q) (transformSize (setOf set) i)) (rw size (root set low i)) (rw size e))
+inverted-powers p known i {old} e inverted =
+    let size : length old ≡ transformSize p i = rw e (powerTable-length (p .q) (transformRoot p i) (transformSize p i)) in
+    rw size at (inverted .table (p .q) (transformRoot p i) (rootInverse p i)
+    (inverseSize (p .q) (transformSize p i)) (rw size (listed-root p known i)) (rw size e))

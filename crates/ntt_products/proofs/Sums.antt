@@ -17,7 +17,8 @@ use Rattle.maths.proofs.Sum.{sum-zero}
 use Rattle.maths.proofs.Congruence.{mod-refl, mod-eq, mod-add, mod-remainder}
 use Rattle.maths.proofs.Product.{product-past}
 use Rattle.maths.proofs.Transform.{send-length, send-at, send-products, recover-length, recover-products}
-use Rattle.sets.specs.Table.{setOf, IsSet}
+use Rattle.sets.specs.declared.Parameters.{Parameters}
+use Rattle.sets.specs.Table.{Listed}
 use Rattle.sets.specs.Derived.{transformSize}
 use Rattle.ntt_products.specs.Stored.{rowCount, sent, recoveredInverse, accumulated, totals, summedProducts, summedCorrelations}
 use Rattle.ntt_products.proofs.Pointwise.{accumulated-length, accumulated-at}
@@ -49,50 +50,50 @@ module _ (q D : ℕ) (x y : ℕ → List ℕ) where
       accumulated-at q (totals q D t x y) (x t) (y t) k (rw (totals-length t) h)
       ∙ rw (totals-at t k h, totals-at (t + 1) k h, add-one) (mod-add (mod-remainder q _) (mod-refl _) .same))
 
-module _ (set : ℕ) (low : IsSet set) (i t : ℕ) (x y : ℕ → List ℕ) where
+module _ (p : Parameters) (known : Listed p) (i t : ℕ) (x y : ℕ → List ℕ) where
   -- a total has all places of its transform, with a residue at each
-  pub totals-placed : Stored set i (totals (setOf set .q) (transformSize (setOf set) i) t x y)
+  pub totals-placed : Stored p i (totals (p .q) (transformSize p i) t x y)
   totals-placed =
       record {
         size = totals-length _ _ x y t;
         inside = omega arith;
-        residues = record { each = λ k h. rw (totals-at _ _ x y t k h) (mod-lt _ (omega (arith, some-modulus set low i))) };
+        residues = record { each = λ k h. rw (totals-at _ _ x y t k h) (mod-lt _ (omega (arith, some-modulus p known i))) };
       }
 
   -- place l of the products added up, which end before place m
   summed-at : (m : ℕ) → ((j : ℕ) → j < t → length (x j) + length (y j) ≤ m + 1) → (l : ℕ)
-      → Mod (setOf set .q) (at (summedProducts (setOf set .q) m t x y) l) (sum t (λ j. product (x j) (y j) l))
+      → Mod (p .q) (at (summedProducts (p .q) m t x y) l) (sum t (λ j. product (x j) (y j) l))
   unfolding summedProducts
   summed-at m ends l =
       elim (decLt l m) [
-        | yes h ↦ rw (tabulate-at m (λ p. sum t (λ j. product (x j) (y j) p) % setOf set .q) l h) (mod-remainder (setOf set .q) _)
+        | yes h ↦ rw (tabulate-at m (λ k. sum t (λ j. product (x j) (y j) k) % p .q) l h) (mod-remainder (p .q) _)
         | no h ↦ mod-eq (tabulate-past m _ l (omega arith) ∙ sym (sum-zero t _ (λ j b. product-past (x j) (y j) l (omega (arith, ends j b)))))
       ]
 
   -- the products of sent vectors, added up place by place, are what is sent of the products of the vectors added up
-  pub totals-sent : (m : ℕ) → m ≤ transformSize (setOf set) i → ((j : ℕ) → j < t → length (x j) + length (y j) ≤ m + 1)
-      → totals (setOf set .q) (transformSize (setOf set) i) t (λ j. sent (setOf set) i (x j)) (λ j. sent (setOf set) i (y j)) ≡ sent (setOf set) i
-      (summedProducts (setOf set .q) m t x y)
+  pub totals-sent : (m : ℕ) → m ≤ transformSize p i → ((j : ℕ) → j < t → length (x j) + length (y j) ≤ m + 1)
+      → totals (p .q) (transformSize p i) t (λ j. sent p i (x j)) (λ j. sent p i (y j)) ≡ sent p i
+      (summedProducts (p .q) m t x y)
   unfolding sent
   totals-sent m fits ends =
-      let rows : rowCount (setOf set) i * setOf set .row ≡ transformSize (setOf set) i = size-rows set low i in
-      let z : List ℕ = summedProducts (setOf set .q) m t x y in
-      equal-by-place (transformSize (setOf set) i) _ _ (totals-length _ _ _ _ t) (send-length _ _ _ _ z ∙ rows)
+      let rows : rowCount p i * p .row ≡ transformSize p i = size-rows p known i in
+      let z : List ℕ = summedProducts (p .q) m t x y in
+      equal-by-place (transformSize p i) _ _ (totals-length _ _ _ _ t) (send-length _ _ _ _ z ∙ rows)
       (λ k h.
       totals-at _ _ _ _ t k h
-      ∙ send-products (setOf set .q) (setOf set .row) (rowCount (setOf set) i) _ t x y z (λ j b. omega (arith, ends j b)) (λ p l. summed-at m ends p) k
+      ∙ send-products (p .q) (p .row) (rowCount p i) _ t x y z (λ j b. omega (arith, ends j b)) (λ k l. summed-at m ends k) k
       (omega arith) .same
-      ∙ rw (send-at (setOf set .q) (setOf set .row) (rowCount (setOf set) i) _ z k (omega arith)) (mod-remainder (setOf set .q) _ .same))
+      ∙ rw (send-at (p .q) (p .row) (rowCount p i) _ z k (omega arith)) (mod-remainder (p .q) _ .same))
 
   -- the products of sent vectors with stored ones, added up place by place, recover to the correlations added up
-  pub totals-recoveredInverse : (m : ℕ) → m ≤ transformSize (setOf set) i → ((j : ℕ) → j < t → length (x j) + m ≤ transformSize (setOf set) i + 1)
-      → recoveredInverse (setOf set) i m (totals (setOf set .q) (transformSize (setOf set) i) t (λ j. sent (setOf set) i (x j)) y) ≡ summedCorrelations
-      (setOf set .q) m t x (λ j. recoveredInverse (setOf set) i (transformSize (setOf set) i) (y j))
+  pub totals-recoveredInverse : (m : ℕ) → m ≤ transformSize p i → ((j : ℕ) → j < t → length (x j) + m ≤ transformSize p i + 1)
+      → recoveredInverse p i m (totals (p .q) (transformSize p i) t (λ j. sent p i (x j)) y) ≡ summedCorrelations
+      (p .q) m t x (λ j. recoveredInverse p i (transformSize p i) (y j))
   unfolding sent recoveredInverse summedCorrelations
   totals-recoveredInverse m fits ends =
-      let rows : rowCount (setOf set) i * setOf set .row ≡ transformSize (setOf set) i = size-rows set low i in
+      let rows : rowCount p i * p .row ≡ transformSize p i = size-rows p known i in
       tabulate-unique m _ _ (recover-length _ _ _ _ _ m _)
       (λ l h.
-      recover-products (setOf set .row) (rowCount (setOf set) i) (rows-root set low i) t (transformSize (setOf set) i) m x y _ l h (omega arith)
+      recover-products (p .row) (rowCount p i) (rows-root p known i) t (transformSize p i) m x y _ l h (omega arith)
       (λ j b. omega (arith, ends j b)) (omega arith)
-      (λ k b. rw (totals-at (setOf set .q) (transformSize (setOf set) i) (λ j. sent (setOf set) i (x j)) y t k (omega arith)) (mod-remainder (setOf set .q) _)))
+      (λ k b. rw (totals-at (p .q) (transformSize p i) (λ j. sent p i (x j)) y t k (omega arith)) (mod-remainder (p .q) _)))

@@ -8,9 +8,9 @@ ghost use lib.ListN.{length, take};
 ghost use Rattle.maths.specs.Transform.{send, recover};
 ghost use Rattle.maths.specs.Vector.{AllBelow};
 ghost use Rattle.calls.specs.Region.{over};
-ghost use Rattle.sets.specs.Table.{setOf, IsSet};
+ghost use Rattle.sets.specs.Table.{Listed};
 ghost use Rattle.sets.specs.Derived.{transformSize};
-ghost use Rattle.sets.specs.Rules.{Rules};
+ghost use Rattle.sets.specs.Rules.{Rules, ByteRules};
 ghost use Rattle.montgomery.specs.Scaled.{scale, Odd, Modulus};
 ghost use Rattle.ntt_products.specs.Stored.{rowCount, sizeInverse, rowScale, inversePowers, sent, sentInverse, recoveredInverse, recovered};
 ghost use Rattle.ntt_products.specs.Stored.{unscaled, products, accumulated, correlations};
@@ -52,14 +52,6 @@ fn scale_first(x: &mut [u32], n: usize, q: u32)
     ntt_settle::settle(&mut x[0..n], by, q, k);
 }
 
-// The size of transform number i of a set.
-pub fn size_of(set: usize, i: usize) -> usize
-    requires { ⌜ IsSet set ⌝ }
-    ensures { λ r. ⌜ r ≡ transformSize (setOf set) i ⌝ }
-{
-    sets::derived::transform_size(sets::parameters_of(set), i)
-}
-
 // The rows of transform number i.
 pub fn rows_of(p: Parameters, i: usize) -> usize
     requires { ⌜ Rules p ⌝ }
@@ -94,42 +86,39 @@ pub fn row_scale_of(p: Parameters, i: usize) -> u32
 }
 
 // Fills `out` with the powers of the inverse of root number i of a set.
-pub fn load_inverse_powers(set: usize, i: usize, out: &mut [u32])
-    requires { ⌜ IsSet set × (length (now out) ≡ transformSize (setOf set) i) ⌝ }
-    ensures { λ _. ⌜ now (out .exit) ≡ inversePowers (setOf set) i ⌝ }
+pub fn load_inverse_powers(p: Parameters, i: usize, out: &mut [u32])
+    requires { ⌜ Listed p × (length (now out) ≡ transformSize p i) ⌝ }
+    ensures { λ _. ⌜ now (out .exit) ≡ inversePowers p i ⌝ }
 {
-    roots::load_powers(set, i, out);
+    roots::load_powers(p, i, out);
     ntt_tables::invert_powers(out);
 }
 
 // How many places the tables of transform number i of a set have.
-pub fn table_length(set: usize, i: usize) -> usize
-    requires { ⌜ IsSet set ⌝ }
-    ensures { λ r. ⌜ r ≡ tableLength (setOf set) i ⌝ }
+pub fn table_length(p: Parameters, i: usize) -> usize
+    requires { ⌜ Listed p ⌝ }
+    ensures { λ r. ⌜ r ≡ tableLength p i ⌝ }
 {
-    let p = sets::parameters_of(set);
     sets::derived::transform_size(p, i) + 264 + rows_of(p, i)
 }
 
 // Fills `out` with the tables of root number i of a set.
-pub fn load_tables(set: usize, i: usize, out: &mut [u32])
-    requires { ⌜ IsSet set × (length (now out) ≡ tableLength (setOf set) i) ⌝ }
-    ensures { λ _. ⌜ RootTables (setOf set) i (now (out .exit)) ⌝ }
+pub fn load_tables(p: Parameters, i: usize, out: &mut [u32])
+    requires { ⌜ Listed p × (length (now out) ≡ tableLength p i) ⌝ }
+    ensures { λ _. ⌜ RootTables p i (now (out .exit)) ⌝ }
 {
-    let p = sets::parameters_of(set);
     let size = sets::derived::transform_size(p, i);
-    roots::load_powers(set, i, &mut out[0..size]);
+    roots::load_powers(p, i, &mut out[0..size]);
     ntt_by_row::fill_tables(out, rows_of(p, i), p.row, p.q);
 }
 
 // Fills `out` with the tables of the inverse of root number i of a set.
-pub fn load_inverse_tables(set: usize, i: usize, out: &mut [u32])
-    requires { ⌜ IsSet set × (length (now out) ≡ tableLength (setOf set) i) ⌝ }
-    ensures { λ _. ⌜ InverseTables (setOf set) i (now (out .exit)) ⌝ }
+pub fn load_inverse_tables(p: Parameters, i: usize, out: &mut [u32])
+    requires { ⌜ Listed p × (length (now out) ≡ tableLength p i) ⌝ }
+    ensures { λ _. ⌜ InverseTables p i (now (out .exit)) ⌝ }
 {
-    let p = sets::parameters_of(set);
     let size = sets::derived::transform_size(p, i);
-    load_inverse_powers(set, i, &mut out[0..size]);
+    load_inverse_powers(p, i, &mut out[0..size]);
     ntt_by_row::fill_tables(out, rows_of(p, i), p.row, p.q);
 }
 
@@ -142,28 +131,28 @@ fn send_front(p: Parameters, i: usize, tables: &[u32], x: &mut [u32], n: usize)
 }
 
 // Sends the first `n` numbers of `x` with root number i of a set.
-pub fn send_first(set: usize, i: usize, tables: &[u32], x: &mut [u32], n: usize)
-    requires { ⌜ IsSet set × RootTables (setOf set) i (now tables) × Placed (setOf set) i n (now x) ⌝ }
-    ensures { λ _. ⌜ now (x .exit) ≡ sent (setOf set) i (take n (now (x .entry))) ⌝ }
+pub fn send_first(p: Parameters, i: usize, tables: &[u32], x: &mut [u32], n: usize)
+    requires { ⌜ Listed p × RootTables p i (now tables) × Placed p i n (now x) ⌝ }
+    ensures { λ _. ⌜ now (x .exit) ≡ sent p i (take n (now (x .entry))) ⌝ }
 {
-    send_front(sets::parameters_of(set), i, tables, x, n);
+    send_front(p, i, tables, x, n);
 }
 
 // Sends the first `n` numbers of `x` with root number i of a set and leaves them in scaled form, as `accumulate` takes them.
-pub fn send_first_scaled(set: usize, i: usize, tables: &[u32], x: &mut [u32], n: usize)
-    requires { ⌜ IsSet set × RootTables (setOf set) i (now tables) × Placed (setOf set) i n (now x) ⌝ }
-    ensures { λ _. ⌜ SentScaled (setOf set) i (take n (now (x .entry))) (now (x .exit)) ⌝ }
+pub fn send_first_scaled(p: Parameters, i: usize, tables: &[u32], x: &mut [u32], n: usize)
+    requires { ⌜ Listed p × RootTables p i (now tables) × Placed p i n (now x) ⌝ }
+    ensures { λ _. ⌜ SentScaled p i (take n (now (x .entry))) (now (x .exit)) ⌝ }
 {
-    scale_first(x, n, sets::parameters_of(set).q);
-    send_first(set, i, tables, x, n);
+    scale_first(x, n, p.q);
+    send_first(p, i, tables, x, n);
 }
 
 // Sends the first `n` numbers of `x` with the inverse of the root.
-pub fn send_first_inverse(set: usize, i: usize, tables: &[u32], x: &mut [u32], n: usize)
-    requires { ⌜ IsSet set × InverseTables (setOf set) i (now tables) × Placed (setOf set) i n (now x) ⌝ }
-    ensures { λ _. ⌜ now (x .exit) ≡ sentInverse (setOf set) i (take n (now (x .entry))) ⌝ }
+pub fn send_first_inverse(p: Parameters, i: usize, tables: &[u32], x: &mut [u32], n: usize)
+    requires { ⌜ Listed p × InverseTables p i (now tables) × Placed p i n (now x) ⌝ }
+    ensures { λ _. ⌜ now (x .exit) ≡ sentInverse p i (take n (now (x .entry))) ⌝ }
 {
-    send_front(sets::parameters_of(set), i, tables, x, n);
+    send_front(p, i, tables, x, n);
 }
 
 // Recovers the first `m` numbers of a stored vector with the root whose tables are lent, scaled by `e`.
@@ -176,21 +165,19 @@ fn recover_front(p: Parameters, i: usize, tables: &[u32], x: &mut [u32], e: u32,
 }
 
 // Recovers the first `m` numbers of a vector that is stored with the inverse of root number i of a set.
-pub fn recover_first_inverse(set: usize, i: usize, tables: &[u32], x: &mut [u32], m: usize)
-    requires { ⌜ IsSet set × RootTables (setOf set) i (now tables) × Placed (setOf set) i (transformSize (setOf set) i) (now x)
-        × (m ≤ transformSize (setOf set) i) ⌝ }
-    ensures { λ _. ⌜ take m (now (x .exit)) ≡ recoveredInverse (setOf set) i m (now (x .entry)) ⌝ }
+pub fn recover_first_inverse(p: Parameters, i: usize, tables: &[u32], x: &mut [u32], m: usize)
+    requires { ⌜ Listed p × RootTables p i (now tables) × Placed p i (transformSize p i) (now x)
+        × (m ≤ transformSize p i) ⌝ }
+    ensures { λ _. ⌜ take m (now (x .exit)) ≡ recoveredInverse p i m (now (x .entry)) ⌝ }
 {
-    let p = sets::parameters_of(set);
     recover_front(p, i, tables, x, size_inverse_of(p, i), m);
 }
 
 // The rows of a vector that is stored with the inverse of root number i of a set, on the way back: the sums of the columns recover its first row.
-pub fn recover_rows(set: usize, i: usize, tables: &[u32], x: &mut [u32])
-    requires { ⌜ (1 ≤ set) × IsSet set × RootTables (setOf set) i (now tables) × Placed (setOf set) i (transformSize (setOf set) i) (now x) ⌝ }
-    ensures { λ _. ⌜ RowsRecovered (setOf set) i (now (x .entry)) (now (x .exit)) ⌝ }
+pub fn recover_rows(p: Parameters, i: usize, tables: &[u32], x: &mut [u32])
+    requires { ⌜ ByteRules p × Listed p × RootTables p i (now tables) × Placed p i (transformSize p i) (now x) ⌝ }
+    ensures { λ _. ⌜ RowsRecovered p i (now (x .entry)) (now (x .exit)) ⌝ }
 {
-    let p = sets::parameters_of(set);
     ntt::inverse_rows(
         x,
         tables,
@@ -201,18 +188,17 @@ pub fn recover_rows(set: usize, i: usize, tables: &[u32], x: &mut [u32])
 }
 
 // Recovers the first `m` numbers of a vector that is stored with root number i of a set.
-pub fn recover_first(set: usize, i: usize, tables: &[u32], x: &mut [u32], m: usize)
-    requires { ⌜ IsSet set × InverseTables (setOf set) i (now tables) × Placed (setOf set) i (transformSize (setOf set) i) (now x)
-        × (m ≤ transformSize (setOf set) i) ⌝ }
-    ensures { λ _. ⌜ take m (now (x .exit)) ≡ recovered (setOf set) i m (now (x .entry)) ⌝ }
+pub fn recover_first(p: Parameters, i: usize, tables: &[u32], x: &mut [u32], m: usize)
+    requires { ⌜ Listed p × InverseTables p i (now tables) × Placed p i (transformSize p i) (now x)
+        × (m ≤ transformSize p i) ⌝ }
+    ensures { λ _. ⌜ take m (now (x .exit)) ≡ recovered p i m (now (x .entry)) ⌝ }
 {
-    let p = sets::parameters_of(set);
     recover_front(p, i, tables, x, size_inverse_of(p, i), m);
 }
 
 // The first `m` correlations of the first `n` numbers of `x` with the vector that is stored with the inverse of root number i of a set.
 pub fn correlate(
-    set: usize,
+    p: Parameters,
     i: usize,
     tables: &[u32],
     x: &mut [u32],
@@ -220,13 +206,12 @@ pub fn correlate(
     stored: &[u32],
     m: usize,
 )
-    requires { ⌜ IsSet set × RootTables (setOf set) i (now tables) × Placed (setOf set) i n (now x) × (0 < n)
-        × Placed (setOf set) i (transformSize (setOf set) i) (now stored) × (n + m ≤ transformSize (setOf set) i + 1) ⌝ }
+    requires { ⌜ Listed p × RootTables p i (now tables) × Placed p i n (now x) × (0 < n)
+        × Placed p i (transformSize p i) (now stored) × (n + m ≤ transformSize p i + 1) ⌝ }
     ensures { λ _. ⌜ take m (now (x .exit))
-        ≡ correlations (setOf set .q) (take n (now (x .entry)))
-        (recoveredInverse (setOf set) i (transformSize (setOf set) i) (now (stored .entry))) m ⌝ }
+        ≡ correlations (p .q) (take n (now (x .entry)))
+        (recoveredInverse p i (transformSize p i) (now (stored .entry))) m ⌝ }
 {
-    let p = sets::parameters_of(set);
     send_front(p, i, tables, x, n);
     multiply(x, stored, p.q, montgomery::negated_inverse(p.q));
     recover_front(p, i, tables, x, scaled_inverse_of(p, i), m);

@@ -1,4 +1,5 @@
 // The bit that a residue is read as (01, Reading).
+use sets::Parameters;
 ghost use mathlib.Core.Path.{_≡_};
 ghost use Prim.Native.Nat.{_<_, _^_};
 ghost use Rattle.maths.specs.Rounding.{floorBit};
@@ -14,11 +15,11 @@ fn floor_bit(h: u32, w: u32) -> u32
 }
 
 // The bit that a set reads a residue as.
-pub fn rounded_bit(set: usize, w: u32) -> u32
-    requires { ⌜ IsSet set × (w < setOf set .q) ⌝ }
-    ensures { λ r. ⌜ r ≡ roundedBit set (setOf set) w ⌝ }
+pub fn rounded_bit(set: usize, p: Parameters, w: u32) -> u32
+    requires { ⌜ IsSet set × (p ≡ setOf set) × (w < p .q) ⌝ }
+    ensures { λ r. ⌜ r ≡ roundedBit set p w ⌝ }
 {
-    let h = sets::derived::half_modulus(sets::parameters_of(set));
+    let h = sets::derived::half_modulus(p);
     if set == 0 {
         return floor_bit(h, w);
     }

@@ -66,7 +66,7 @@ fn fill(set: usize, p: Parameters, c1: &[u32], c2: &[u32], s: &[u32], bits: &mut
 {
     let mut j: usize = 0;
     while j < bits.len() {
-        let value = bits::rounded_bit(set, opened_place(p, c1, c2, s, j));
+        let value = bits::rounded_bit(set, p, opened_place(p, c1, c2, s, j));
         bits[j] = value;
         j += 1;
     }

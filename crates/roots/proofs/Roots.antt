@@ -11,7 +11,7 @@ use Rattle.maths.proofs.PowerTable.{root-of-order}
 use Rattle.calls.specs.Checks.{allOf}
 use Rattle.calls.proofs.Checks.{Each}
 use Rattle.sets.specs.declared.Parameters.{Parameters}
-use Rattle.sets.specs.Table.{table, setOf, IsSet}
+use Rattle.sets.specs.Table.{table, setOf, IsSet, Listed}
 use Rattle.sets.specs.Derived.{transformSize, transformRoot}
 use Rattle.sets.specs.Rules.{Rules}
 use Rattle.sets.proofs.Tested.{passed, at-each}
@@ -41,6 +41,10 @@ module _ (set : ℕ) (low : IsSet set) where
   picked false false = root-of-order _ _ _ (kept .prime) (kept .divides3) (passes .1 .1 .0)
 
   -- each root of a set from 0 to 12 has the order of its transform size
-  pub root : (i : ℕ) → RootOfOrder (setOf set .q) (transformSize (setOf set) i) (transformRoot (setOf set) i)
+  root : (i : ℕ) → RootOfOrder (setOf set .q) (transformSize (setOf set) i) (transformRoot (setOf set) i)
   unfolding transformSize transformRoot
   root i = picked (eqb i 1) (eqb i 2)
+
+-- the same of the record of a set
+pub listed-root : (p : Parameters) → Listed p → (i : ℕ) → RootOfOrder (p .q) (transformSize p i) (transformRoot p i)
+listed-root p known i = rw (known .listed) (root (known .set) (known .is-set) i)

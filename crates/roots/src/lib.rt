@@ -1,14 +1,16 @@
 // The powers of the roots of unity of every set: which table serves which set. The tables stand in the crates roots_bench to roots_super256.
+use sets::Parameters;
 ghost use mathlib.Core.Path.{_≡_};
 ghost use lib.ListN.{length};
-ghost use Rattle.sets.specs.Table.{setOf, IsSet};
+ghost use Rattle.sets.specs.Table.{Listed};
 ghost use Rattle.sets.specs.Derived.{transformSize, rootPowers};
 
 // Fills `out` with the powers of root number i of a set: place j holds the root to the power j, modulo q.
-pub fn load_powers(set: usize, i: usize, out: &mut [u32])
-    requires { ⌜ IsSet set × (length (now out) ≡ transformSize (setOf set) i) ⌝ }
-    ensures { λ _. ⌜ now (out .exit) ≡ rootPowers (setOf set) i ⌝ }
+pub fn load_powers(p: Parameters, i: usize, out: &mut [u32])
+    requires { ⌜ Listed p × (length (now out) ≡ transformSize p i) ⌝ }
+    ensures { λ _. ⌜ now (out .exit) ≡ rootPowers p i ⌝ }
 {
+    let set = p.roots;
     match set {
         0 => roots_bench::set0_first(out),
         1 => roots_toy64::load_set1(i, out),

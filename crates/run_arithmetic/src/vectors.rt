@@ -3,64 +3,80 @@
 // tables and of the vector.
 use crate::fills;
 use report::script::Command;
+use sets::Parameters;
 ghost use mathlib.Core.Path.{_≡_};
 ghost use mathlib.Core.Bool.{true};
 ghost use Prim.Native.Nat.{_+_, _≤_};
 ghost use lib.ListN.{length};
-ghost use Rattle.sets.specs.Table.{setOf, IsSet};
+ghost use Rattle.sets.specs.Table.{Listed};
 ghost use Rattle.ntt_products.specs.Placed.{Placed, tableLength};
 
-// Whether a transform may be made: there is the set, the slices have its lengths, and the first `n` numbers of the vector are residues.
-fn ready(set: usize, i: usize, n: usize, tables: &[u32], x: &[u32]) -> bool
-    ensures { λ r. ⌜ (r ≡ true → IsSet set × (length (now (tables .entry)) ≡ tableLength (setOf set) i) × Placed (setOf set) i n (now (x .entry))) ⌝ }
+// The record of a set; that of set 0 where there is no such set.
+fn record_of(set: usize) -> Parameters
+    ensures { λ r. ⌜ Listed r ⌝ }
 {
     if sets::LAST < set {
+        return sets::parameters_of(0);
+    }
+    sets::parameters_of(set)
+}
+
+// Whether a transform may be made: the slices have the set's lengths, and the first `n` numbers of the vector are residues.
+fn ready(p: Parameters, i: usize, n: usize, tables: &[u32], x: &[u32]) -> bool
+    requires { ⌜ Listed p ⌝ }
+    ensures { λ r. ⌜ (r ≡ true → (length (now (tables .entry)) ≡ tableLength p i) × Placed p i n (now (x .entry))) ⌝ }
+{
+    if tables.len() != ntt_products::table_length(p, i) {
         return false;
     }
-    if tables.len() != ntt_products::table_length(set, i) {
+    if x.len() != sets::derived::transform_size(p, i) {
         return false;
     }
-    if x.len() != ntt_products::size_of(set, i) {
-        return false;
-    }
-    let p = sets::parameters_of(set);
     n <= calls::first_at_least(x, p.q)
 }
 
 // Sends the first `n` numbers with the root, and prints the checksum.
-fn send(set: usize, i: usize, n: usize, tables: &mut [u32], x: &mut [u32]) {
-    if ready(set, i, n, tables, x) {
-        ntt_products::load_tables(set, i, tables);
-        ntt_products::send_first(set, i, tables, x, n);
+fn send(p: Parameters, i: usize, n: usize, tables: &mut [u32], x: &mut [u32])
+    requires { ⌜ Listed p ⌝ }
+{
+    if ready(p, i, n, tables, x) {
+        ntt_products::load_tables(p, i, tables);
+        ntt_products::send_first(p, i, tables, x, n);
         report::number_sum(x);
     }
 }
 
 // The same with the inverse of the root.
-fn send_inverse(set: usize, i: usize, n: usize, tables: &mut [u32], x: &mut [u32]) {
-    if ready(set, i, n, tables, x) {
-        ntt_products::load_inverse_tables(set, i, tables);
-        ntt_products::send_first_inverse(set, i, tables, x, n);
+fn send_inverse(p: Parameters, i: usize, n: usize, tables: &mut [u32], x: &mut [u32])
+    requires { ⌜ Listed p ⌝ }
+{
+    if ready(p, i, n, tables, x) {
+        ntt_products::load_inverse_tables(p, i, tables);
+        ntt_products::send_first_inverse(p, i, tables, x, n);
         report::number_sum(x);
     }
 }
 
 // Recovers a vector that was sent with the root, and prints the checksum.
-fn recover(set: usize, i: usize, tables: &mut [u32], x: &mut [u32]) {
+fn recover(p: Parameters, i: usize, tables: &mut [u32], x: &mut [u32])
+    requires { ⌜ Listed p ⌝ }
+{
     let size = x.len();
-    if ready(set, i, size, tables, x) {
-        ntt_products::load_inverse_tables(set, i, tables);
-        ntt_products::recover_first(set, i, tables, x, size);
+    if ready(p, i, size, tables, x) {
+        ntt_products::load_inverse_tables(p, i, tables);
+        ntt_products::recover_first(p, i, tables, x, size);
         report::number_sum(x);
     }
 }
 
 // The same of a vector that was sent with the inverse of the root.
-fn recover_inverse(set: usize, i: usize, tables: &mut [u32], x: &mut [u32]) {
+fn recover_inverse(p: Parameters, i: usize, tables: &mut [u32], x: &mut [u32])
+    requires { ⌜ Listed p ⌝ }
+{
     let size = x.len();
-    if ready(set, i, size, tables, x) {
-        ntt_products::load_tables(set, i, tables);
-        ntt_products::recover_first_inverse(set, i, tables, x, size);
+    if ready(p, i, size, tables, x) {
+        ntt_products::load_tables(p, i, tables);
+        ntt_products::recover_first_inverse(p, i, tables, x, size);
         report::number_sum(x);
     }
 }
@@ -77,12 +93,14 @@ fn settled(size: usize, n: usize) -> usize
 }
 
 // Correlates the first `n` numbers of a vector with a stored one, and prints the checksum of the places that this settles.
-fn correlate(set: usize, i: usize, n: usize, tables: &mut [u32], x: &mut [u32], stored: &[u32]) {
+fn correlate(p: Parameters, i: usize, n: usize, tables: &mut [u32], x: &mut [u32], stored: &[u32])
+    requires { ⌜ Listed p ⌝ }
+{
     let size = stored.len();
-    if 0 < n && ready(set, i, n, tables, x) && ready(set, i, size, tables, stored) {
+    if 0 < n && ready(p, i, n, tables, x) && ready(p, i, size, tables, stored) {
         let m = settled(size, n);
-        ntt_products::load_tables(set, i, tables);
-        ntt_products::correlate(set, i, tables, x, n, stored, m);
+        ntt_products::load_tables(p, i, tables);
+        ntt_products::correlate(p, i, tables, x, n, stored, m);
         report::number_sum(report::numbers(x, 0, m));
     }
 }
@@ -93,7 +111,7 @@ pub fn correlation(line: Command, numbers: &[u32]) {
     let mut x = [0u32; 3328];
     fills::copy(&mut x, report::numbers(numbers, crate::A, 3328));
     correlate(
-        line.one,
+        record_of(line.one),
         line.two,
         line.three,
         report::numbers_mut(&mut tables, 0, line.four),
@@ -104,12 +122,13 @@ pub fn correlation(line: Command, numbers: &[u32]) {
 
 // One of the four transforms of a vector.
 fn one_way(line: Command, tables: &mut [u32], x: &mut [u32]) {
+    let p = record_of(line.one);
     let number = line.number;
     match number {
-        12 => send(line.one, line.two, line.three, tables, x),
-        13 => send_inverse(line.one, line.two, line.three, tables, x),
-        14 => recover(line.one, line.two, tables, x),
-        _ => recover_inverse(line.one, line.two, tables, x),
+        12 => send(p, line.two, line.three, tables, x),
+        13 => send_inverse(p, line.two, line.three, tables, x),
+        14 => recover(p, line.two, tables, x),
+        _ => recover_inverse(p, line.two, tables, x),
     }
 }
 

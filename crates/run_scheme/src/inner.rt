@@ -25,7 +25,7 @@ fn read(set: usize, seed: &[u8], sealed: &[u8], message: &mut [u8], work: &mut [
     if work.len() != scheme::work_length(p) {
         return Answer::Refused(2, 0);
     }
-    cpa_decrypt::decrypt(set, seed, sealed, message, work)
+    cpa_decrypt::decrypt(p, seed, sealed, message, work)
 }
 
 // The same with the secret key and the ciphertext of the store; prints the answer, and keeps what is read. A line has the command, the set and the lengths of
@@ -71,10 +71,10 @@ fn write_unpacked(
     if work.len() != scheme::work_length(p) {
         return;
     }
-    if !cpa_encrypt::key_below(set, public, work) {
+    if !cpa_encrypt::key_below(p, public, work) {
         return;
     }
-    cpa_encrypt::numbers_before_packing(set, public, message, seed, out, work);
+    cpa_encrypt::numbers_before_packing(p, public, message, seed, out, work);
 }
 
 // Prints the first eight of them, of what the store holds. A line has the command, the set and the lengths of the public key and of the work slice.

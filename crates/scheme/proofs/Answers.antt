@@ -15,8 +15,10 @@ use Rattle.calls.specs.Checks.{passing, below}
 use Rattle.calls.proofs.Outcome.{accepted-refused, refuse-accepted, leaves-same}
 use Rattle.calls.proofs.Checks.{passing-all}
 use Rattle.sets.specs.declared.Parameters.{Parameters}
-use Rattle.sets.specs.Table.{setOf, lastSet, noSet}
+use Rattle.sets.specs.Table.{setOf, lastSet, noSet, Listed}
+use Rattle.sets.specs.Rules.{ByteRules}
 use Rattle.sets.specs.Derived.{publicKeyBytes, secretKeyBytes, ciphertextBytes}
+use Rattle.sets.proofs.Rules.{byteRules, listed-set}
 use Rattle.scheme.specs.Encryption.{cipherFirst}
 use Rattle.scheme.specs.Answers.{refuseSet, checks, workLeft, workLength, onlyResidues, secretDraw, decryptDraws}
 use Rattle.scheme.specs.Answers.{publicFits, secretFits, keyChecks, encryptChecks, decryptChecks, roundTripChecks}
@@ -53,6 +55,13 @@ module _ (isOwn : ℕ → Bool) (set : ℕ) where
   -- the set is one of the scheme's
   abbrev pub Own : Type 0
   Own = (1 ≤ set) × (set ≤ lastSet) × (isOwn set ≡ true)
+
+  -- the record of such a set stands in the table and keeps the rules of bytes
+  pub own-listed : Own → Listed (setOf set)
+  own-listed is = listed-set set (omega (arith, is .1))
+
+  pub own-bytes : Own → ByteRules (setOf set)
+  own-bytes is = byteRules set (is .0) (omega (arith, is .1))
 
   -- where the checks of the set passed
   own : (after : Outcome) → refuseSet isOwn set after ≡ accepted → Own × (after ≡ accepted)

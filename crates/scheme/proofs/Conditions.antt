@@ -6,17 +6,22 @@ use native.Mathlib.Decide.{ℕ-discrete}
 use native.Mathlib.Omega.{arith}
 use Rattle.maths.specs.Root.{Root}
 use Rattle.sets.specs.declared.Parameters.{Parameters}
-use Rattle.sets.specs.Table.{setOf, IsSet}
+use Rattle.sets.specs.Table.{setOf, IsSet, Listed}
+use Rattle.sets.specs.Rules.{ByteRules}
 use Rattle.sets.specs.Derived.{transformSize, transformRoot}
-use Rattle.sets.proofs.Rules.{rules, byteRules}
+use Rattle.sets.proofs.Rules.{byteRules, listed-set, listed-rules}
 use Rattle.sets.proofs.Transforms.{size-first, size-second, size-third}
 use Rattle.roots.proofs.Laws as roots
 use Rattle.ntt_products.specs.Stored.{rowCount, rootInverse, sizeInverse}
 use Rattle.scheme.specs.Conditions.{Conditions}
 
--- sets 1 to 12 meet the conditions
+-- a record of the table with the rules of bytes meets the conditions
+pub listed-conditions : (p : Parameters) → ByteRules p → Listed p → Conditions p
+listed-conditions p bytes known = record { rules = listed-rules p known; bytes = bytes; roots = roots.listed-root p known }
+
+-- so sets 1 to 12 do
 pub set-conditions : (set : ℕ) → 1 ≤ set → IsSet set → Conditions (setOf set)
-set-conditions set some low = record { rules = rules set low; bytes = byteRules set some low; roots = roots.root set low }
+set-conditions set some low = listed-conditions (setOf set) (byteRules set some low) (listed-set set low)
 
 module _ {p : Parameters} (c : Conditions p) where
   -- q is not 0

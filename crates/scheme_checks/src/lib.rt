@@ -1,16 +1,17 @@
 // The checks of set and lengths that come before the draws of a call, the same for both schemes (01, How each call answers: Encryption scheme, Key
-// exchange; 02, No. 1).
+// exchange; 02, No. 1). The caller hands over the set's record, so that a call looks it up once.
 use calls::Answer;
+use sets::Parameters;
 ghost use mathlib.Core.Path.{_≡_};
 ghost use mathlib.Core.Bool.{not};
 ghost use Rattle.calls.specs.Outcome.{outcome, accepted, refuse};
-ghost use Rattle.sets.specs.Table.{IsSet};
+ghost use Rattle.sets.specs.Table.{setOf};
 ghost use Rattle.sets.specs.Derived.{isOf};
-ghost use Rattle.scheme.specs.Answers.{refuseSet, publicFits, secretFits, ciphertextFits, workFits};
-ghost use Rattle.scheme.specs.Answers.{keyChecks, encryptChecks, decryptChecks, roundTripChecks};
+ghost use Rattle.scheme.specs.Answers.{refuseSet, keyChecks, encryptChecks, decryptChecks, roundTripChecks};
 
 // Refused with 1 when the set is not 1 to 12, with 8 when it is not one of the scheme with this number.
-fn set_checked(number: u32, set: usize) -> Answer
+fn set_checked(number: u32, set: usize, p: Parameters) -> Answer
+    requires { ⌜ p ≡ setOf set ⌝ }
     ensures { λ r. ⌜ outcome r ≡ refuseSet (isOf number) set accepted ⌝ }
 {
     if set < 1 {
@@ -19,42 +20,10 @@ fn set_checked(number: u32, set: usize) -> Answer
     if sets::LAST < set {
         return Answer::Refused(1, 0);
     }
-    if sets::derived::scheme_of(set) != number {
+    if p.scheme != number {
         return Answer::Refused(8, 0);
     }
     Answer::Done
-}
-
-// Whether a public key has the bytes of a set.
-fn public_fits(set: usize, public: usize) -> bool
-    requires { ⌜ IsSet set ⌝ }
-    ensures { λ r. ⌜ r ≡ publicFits set public ⌝ }
-{
-    public == sets::derived::public_key_bytes(sets::parameters_of(set))
-}
-
-// Whether a secret key does.
-fn secret_fits(set: usize, secret: usize) -> bool
-    requires { ⌜ IsSet set ⌝ }
-    ensures { λ r. ⌜ r ≡ secretFits set secret ⌝ }
-{
-    secret == sets::derived::secret_key_bytes(set)
-}
-
-// Whether a ciphertext does.
-fn ciphertext_fits(set: usize, ciphertext: usize) -> bool
-    requires { ⌜ IsSet set ⌝ }
-    ensures { λ r. ⌜ r ≡ ciphertextFits set ciphertext ⌝ }
-{
-    ciphertext == sets::derived::ciphertext_bytes(set)
-}
-
-// Whether a work slice has the numbers of a set.
-fn work_fits(set: usize, work: usize) -> bool
-    requires { ⌜ IsSet set ⌝ }
-    ensures { λ r. ⌜ r ≡ workFits set work ⌝ }
-{
-    work == scheme::work_length(sets::parameters_of(set))
 }
 
 // Refused with 2 when seeds, messages, keys or shared keys do not fit, then with 9 when the ciphertext does not, then with 10 when the work slice does not.
@@ -77,42 +46,48 @@ fn lengths_checked(slices: bool, ciphertext: bool, work: bool) -> Answer
 pub fn key_checked(
     number: u32,
     set: usize,
+    p: Parameters,
     seed: usize,
     public: usize,
     secret: usize,
     work: usize,
 ) -> Answer
+    requires { ⌜ p ≡ setOf set ⌝ }
     ensures { λ r. ⌜ outcome r ≡ keyChecks (isOf number) set seed public secret work ⌝ }
 {
-    let checked = set_checked(number, set);
+    let checked = set_checked(number, set, p);
     let Answer::Done = checked else {
         return checked;
     };
-    let slices = (seed == 32) & public_fits(set, public) & secret_fits(set, secret);
-    lengths_checked(slices, true, work_fits(set, work))
+    let slices = (seed == 32)
+        & (public == sets::derived::public_key_bytes(p))
+        & (secret == sets::derived::secret_key_bytes(p));
+    lengths_checked(slices, true, work == scheme::work_length(p))
 }
 
 // The checks of encrypt and of encapsulate; `other` is the sealing seed of one, the shared key of the other.
 pub fn encrypt_checked(
     number: u32,
     set: usize,
+    p: Parameters,
     public: usize,
     message: usize,
     other: usize,
     ciphertext: usize,
     work: usize,
 ) -> Answer
+    requires { ⌜ p ≡ setOf set ⌝ }
     ensures { λ r. ⌜ outcome r ≡ encryptChecks (isOf number) set public message other ciphertext work ⌝ }
 {
-    let checked = set_checked(number, set);
+    let checked = set_checked(number, set, p);
     let Answer::Done = checked else {
         return checked;
     };
-    let slices = public_fits(set, public) & (message == 32) & (other == 32);
+    let slices = (public == sets::derived::public_key_bytes(p)) & (message == 32) & (other == 32);
     lengths_checked(
         slices,
-        ciphertext_fits(set, ciphertext),
-        work_fits(set, work),
+        ciphertext == sets::derived::ciphertext_bytes(p),
+        work == scheme::work_length(p),
     )
 }
 
@@ -120,22 +95,24 @@ pub fn encrypt_checked(
 pub fn decrypt_checked(
     number: u32,
     set: usize,
+    p: Parameters,
     secret: usize,
     ciphertext: usize,
     given: usize,
     work: usize,
 ) -> Answer
+    requires { ⌜ p ≡ setOf set ⌝ }
     ensures { λ r. ⌜ outcome r ≡ decryptChecks (isOf number) set secret ciphertext given work ⌝ }
 {
-    let checked = set_checked(number, set);
+    let checked = set_checked(number, set, p);
     let Answer::Done = checked else {
         return checked;
     };
-    let slices = secret_fits(set, secret) & (given == 32);
+    let slices = (secret == sets::derived::secret_key_bytes(p)) & (given == 32);
     lengths_checked(
         slices,
-        ciphertext_fits(set, ciphertext),
-        work_fits(set, work),
+        ciphertext == sets::derived::ciphertext_bytes(p),
+        work == scheme::work_length(p),
     )
 }
 
@@ -143,6 +120,7 @@ pub fn decrypt_checked(
 pub fn round_trip_checked(
     number: u32,
     set: usize,
+    p: Parameters,
     seed: usize,
     message: usize,
     other: usize,
@@ -152,17 +130,20 @@ pub fn round_trip_checked(
     ciphertext: usize,
     work: usize,
 ) -> Answer
+    requires { ⌜ p ≡ setOf set ⌝ }
     ensures { λ r. ⌜ outcome r ≡ roundTripChecks (isOf number) set seed message other given public secret ciphertext work ⌝ }
 {
-    let checked = set_checked(number, set);
+    let checked = set_checked(number, set, p);
     let Answer::Done = checked else {
         return checked;
     };
     let fixed = (seed == 32) & (message == 32) & (other == 32) & (given == 32);
-    let slices = fixed & public_fits(set, public) & secret_fits(set, secret);
+    let slices = fixed
+        & (public == sets::derived::public_key_bytes(p))
+        & (secret == sets::derived::secret_key_bytes(p));
     lengths_checked(
         slices,
-        ciphertext_fits(set, ciphertext),
-        work_fits(set, work),
+        ciphertext == sets::derived::ciphertext_bytes(p),
+        work == scheme::work_length(p),
     )
 }

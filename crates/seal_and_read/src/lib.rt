@@ -36,6 +36,7 @@ pub fn seal_and_read(
     let checked = scheme_checks::round_trip_checked(
         sets::ENCRYPTION,
         set,
+        sets::parameters_of(set),
         seed.len(),
         message.len(),
         sealing.len(),

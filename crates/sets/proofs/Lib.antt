@@ -4,3 +4,4 @@ pub mod Lengths
 pub mod Transforms
 pub mod Schemes
 pub mod Counts
+pub mod Served

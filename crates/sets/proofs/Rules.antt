@@ -3,8 +3,10 @@
 use mathlib.Core.Path.{_≡_, refl, sym, subst}
 use mathlib.Core.Bool.{Bool, true}
 use mathlib.Core.List.{List, [], _∷_}
+use mathlib.Core.Logic.{_⊎_, inl, inr}
 use Prim.Native.Nat.{ℕ, zero, suc, _+_, _-_, _*_, _/_, _%_, _^_, _≤_}
 use native.Mathlib.Nat.{le-of-suc-le-suc, not-suc-le-zero}
+use native.Mathlib.Omega.{arith}
 use borrow.Author.Tests.{leb-true, eqb-true}
 use lib.Dec.{T, leb, ltb, eqb}
 use lib.ListN.{drop}
@@ -13,7 +15,7 @@ use Rattle.maths.proofs.Prime.{prime}
 use Rattle.calls.specs.Checks.{allOf}
 use Rattle.calls.proofs.Checks.{Each}
 use Rattle.sets.specs.declared.Parameters.{Parameters}
-use Rattle.sets.specs.Table.{table, setOf, IsSet}
+use Rattle.sets.specs.Table.{table, setOf, IsSet, Listed}
 use Rattle.sets.specs.Derived.{halfModulus, multiplierCount, multiplierBytes, multiplierDrawBytes, errorDrawBytes, packedBytes, publicKeyBytes}
 use Rattle.sets.specs.Derived.{cpaCiphertextBytes}
 use Rattle.sets.specs.Rules.{Rules, ByteRules}
@@ -117,8 +119,28 @@ unfolding setOf table
 byteRules zero some h = absurd (not-suc-le-zero some)
 byteRules (suc i) some h = kept-bytes (setOf (suc i)) (at-each byteTests (drop 1 table) table-passed-bytes i (le-of-suc-le-suc h))
 
+-- the record of a set is in the table
+pub listed-set : (set : ℕ) → IsSet set → Listed (setOf set)
+listed-set set low = record { set = set; is-set = low; listed = refl }
+
+-- and keeps the rules
+pub listed-rules : (p : Parameters) → Listed p → Rules p
+listed-rules p known = rw (known .listed) (rules (known .set) (known .is-set))
+
+-- but for set 0 it keeps the rules of bytes
+pub listed-cases : (p : Parameters) → Listed p → (p ≡ setOf 0) ⊎ ByteRules p
+listed-cases p known = cases (known .set) (known .is-set) (known .listed)
+  where
+    cases : (set : ℕ) → IsSet set → p ≡ setOf set → (p ≡ setOf 0) ⊎ ByteRules p
+    cases zero low e = inl e
+    cases (suc i) low e = inr (rw e (byteRules (suc i) (omega arith) low))
+
 module _ (set : ℕ) (low : IsSet set) (p : Parameters) (e : p ≡ setOf set) where
-  -- the numbers of the set keep the rules
+  -- the record of the set is in the table
+  pub listed-of : Listed p
+  listed-of = record { set = set; is-set = low; listed = e }
+
+  -- it keeps the rules
   pub rules-of : Rules p
   rules-of = rw e (rules set low)
 

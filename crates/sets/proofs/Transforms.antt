@@ -8,9 +8,8 @@ use lib.Dec.{eqb}
 use borrow.Author.Tests.{eq-eqb, ne-eqb}
 use Rattle.maths.specs.Root.{powerTable}
 use Rattle.sets.specs.declared.Parameters.{Parameters}
-use Rattle.sets.specs.Table.{setOf, IsSet}
 use Rattle.sets.specs.Derived.{transformSize, transformRoot, rootPowers}
-use Rattle.sets.proofs.Rules.{rules}
+use Rattle.sets.specs.Rules.{Rules}
 
 module _ (p : Parameters) (i : ℕ) where
   pub size-first : i ≡ 1 → transformSize p i ≡ p .d1
@@ -24,18 +23,6 @@ module _ (p : Parameters) (i : ℕ) where
   pub size-third : (i ≡ 1 → ⊥) → (i ≡ 2 → ⊥) → transformSize p i ≡ p .d3
   unfolding transformSize
   size-third f s = rw (ne-eqb i 1 f, ne-eqb i 2 s)
-
-  pub root-first : i ≡ 1 → transformRoot p i ≡ p .w1
-  unfolding transformRoot
-  root-first e = rw (eq-eqb i 1 e)
-
-  pub root-second : i ≡ 2 → transformRoot p i ≡ p .w2
-  unfolding transformRoot
-  root-second e = rw e
-
-  pub root-third : (i ≡ 1 → ⊥) → (i ≡ 2 → ⊥) → transformRoot p i ≡ p .w3
-  unfolding transformRoot
-  root-third f s = rw (ne-eqb i 1 f, ne-eqb i 2 s)
 
   pub powers-first : i ≡ 1 → rootPowers p i ≡ powerTable (p .q) (p .w1) (p .d1)
   unfolding transformSize transformRoot rootPowers
@@ -70,8 +57,6 @@ by-size p i P first second third = picked (eqb i 1) (eqb i 2)
     picked false false = third
 
 -- no transform has more than 3,328 places
-pub size-most : (set : ℕ) → IsSet set → (i : ℕ) → transformSize (setOf set) i ≤ 3328
-size-most set low i =
-    let kept = rules set low in
-    by-size (setOf set) i (λ D. D ≤ 3328) (omega (arith, kept .rising1, kept .rising2, kept .most-d3)) (omega (arith, kept .rising2, kept .most-d3))
-    (kept .most-d3)
+pub size-most : (p : Parameters) → Rules p → (i : ℕ) → transformSize p i ≤ 3328
+size-most p kept i =
+    by-size p i (λ D. D ≤ 3328) (omega (arith, kept .rising1, kept .rising2, kept .most-d3)) (omega (arith, kept .rising2, kept .most-d3)) (kept .most-d3)

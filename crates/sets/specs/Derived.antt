@@ -64,9 +64,12 @@ publicKeyBytes p = 32 + packedBytes (p .d1 * p .t) (p .width)
 unfoldable pub cpaCiphertextBytes : Parameters → ℕ
 cpaCiphertextBytes p = packedBytes (p .d2) (p .width) + packedBytes (p .d) (p .width - p .cmp)
 
--- is a set of the scheme with this number
+-- is of the scheme with this number: a record, a set
+abbrev pub ofScheme : ℕ → Parameters → Bool
+ofScheme scheme p = eqb (p .scheme) scheme
+
 abbrev pub isOf : ℕ → ℕ → Bool
-isOf scheme set = eqb (setOf set .scheme) scheme
+isOf scheme set = ofScheme scheme (setOf set)
 
 -- is an encryption set, is an exchange set
 unfoldable pub isEncryption : ℕ → Bool
@@ -76,12 +79,19 @@ unfoldable pub isExchange : ℕ → Bool
 isExchange set = isOf 2 set
 
 -- a secret key: a seed, and in the key exchange the public key after it (algorithm 29)
-unfoldable pub secretKeyBytes : ℕ → ℕ
-secretKeyBytes set = 32 + cond (isExchange set) (publicKeyBytes (setOf set)) 0
+unfoldable pub secretBytes : Parameters → ℕ
+secretBytes p = 32 + cond (ofScheme 2 p) (publicKeyBytes p) 0
 
 -- a ciphertext: in the key exchange 32 bytes more, d_cca (algorithm 31)
-unfoldable pub ciphertextBytes : ℕ → ℕ
-ciphertextBytes set = cpaCiphertextBytes (setOf set) + cond (isExchange set) 32 0
+unfoldable pub sealedBytes : Parameters → ℕ
+sealedBytes p = cpaCiphertextBytes p + cond (ofScheme 2 p) 32 0
+
+-- the same of a set by its number
+abbrev pub secretKeyBytes : ℕ → ℕ
+secretKeyBytes set = secretBytes (setOf set)
+
+abbrev pub ciphertextBytes : ℕ → ℕ
+ciphertextBytes set = sealedBytes (setOf set)
 
 -- the byte lengths of a set: public key, secret key, ciphertext
 lengths : ℕ → List ℕ
@@ -105,7 +115,7 @@ published =
     []
 
 lengths-published : map lengths (1 ∷ 2 ∷ 3 ∷ 4 ∷ 5 ∷ 6 ∷ 7 ∷ 8 ∷ 9 ∷ 10 ∷ 11 ∷ 12 ∷ []) ≡ published
-unfolding none table setOf packedBytes publicKeyBytes cpaCiphertextBytes isExchange secretKeyBytes ciphertextBytes lengths published
+unfolding none table setOf packedBytes publicKeyBytes cpaCiphertextBytes secretBytes sealedBytes lengths published
 lengths-published = refl
 
 -- set 1 has 2,560 positions, the first 1,488 of them with 7 bits

@@ -2,10 +2,9 @@
 use crate::Parameters;
 ghost use mathlib.Core.Path.{_≡_};
 ghost use Prim.Native.Nat.{_*_, _<_, _≤_, _^_};
-ghost use Rattle.sets.specs.Table.{setOf, IsSet};
 ghost use Rattle.sets.specs.Rules.{Rules};
-ghost use Rattle.sets.specs.Derived.{halfModulus, transformSize, transformRoot, multiplierCount, errorCount, multiplierBits, multiplierBytes};
-ghost use Rattle.sets.specs.Derived.{packedBytes, publicKeyBytes, cpaCiphertextBytes, isEncryption, isExchange, secretKeyBytes, ciphertextBytes};
+ghost use Rattle.sets.specs.Derived.{halfModulus, transformSize, multiplierCount, errorCount, multiplierBits, multiplierBytes};
+ghost use Rattle.sets.specs.Derived.{packedBytes, publicKeyBytes, cpaCiphertextBytes, secretBytes, sealedBytes};
 
 // The half modulus h.
 pub fn half_modulus(p: Parameters) -> u32
@@ -23,17 +22,6 @@ pub fn transform_size(p: Parameters, i: usize) -> usize
         1 => p.d1,
         2 => p.d2,
         _ => p.d3,
-    }
-}
-
-// Root number i.
-pub fn transform_root(p: Parameters, i: usize) -> u32
-    ensures { λ r. ⌜ r ≡ transformRoot p i ⌝ }
-{
-    match i {
-        1 => p.w1,
-        2 => p.w2,
-        _ => p.w3,
     }
 }
 
@@ -92,49 +80,25 @@ pub fn cpa_ciphertext_bytes(p: Parameters) -> usize
     packed_bytes(p.d2, p.width as usize) + packed_bytes(p.d, (p.width - p.cmp) as usize)
 }
 
-// The scheme of a set: 1 for the encryption scheme, 2 for the key exchange, 0 where there is none.
-pub fn scheme_of(set: usize) -> u32
-    ensures { λ r. ⌜ r ≡ setOf set .scheme ⌝ }
+// The bytes of a secret key.
+pub fn secret_key_bytes(p: Parameters) -> usize
+    requires { ⌜ Rules p ⌝ }
+    ensures { λ r. ⌜ r ≡ secretBytes p ⌝ }
 {
-    if crate::LAST < set {
-        return 0;
-    }
-    crate::parameters_of(set).scheme
-}
-
-// Whether a set is one of the encryption scheme.
-pub fn is_encryption(set: usize) -> bool
-    ensures { λ r. ⌜ r ≡ isEncryption set ⌝ }
-{
-    scheme_of(set) == crate::ENCRYPTION
-}
-
-// Whether a set is one of the key exchange.
-pub fn is_exchange(set: usize) -> bool
-    ensures { λ r. ⌜ r ≡ isExchange set ⌝ }
-{
-    scheme_of(set) == crate::EXCHANGE
-}
-
-// The bytes of a set's secret key.
-pub fn secret_key_bytes(set: usize) -> usize
-    requires { ⌜ IsSet set ⌝ }
-    ensures { λ r. ⌜ r ≡ secretKeyBytes set ⌝ }
-{
-    if is_exchange(set) {
-        32 + public_key_bytes(crate::parameters_of(set))
+    if p.scheme == crate::EXCHANGE {
+        32 + public_key_bytes(p)
     } else {
         32
     }
 }
 
-// The bytes of a set's ciphertext.
-pub fn ciphertext_bytes(set: usize) -> usize
-    requires { ⌜ IsSet set ⌝ }
-    ensures { λ r. ⌜ r ≡ ciphertextBytes set ⌝ }
+// The bytes of a ciphertext of a set's own scheme.
+pub fn ciphertext_bytes(p: Parameters) -> usize
+    requires { ⌜ Rules p ⌝ }
+    ensures { λ r. ⌜ r ≡ sealedBytes p ⌝ }
 {
-    let sealed = cpa_ciphertext_bytes(crate::parameters_of(set));
-    if is_exchange(set) {
+    let sealed = cpa_ciphertext_bytes(p);
+    if p.scheme == crate::EXCHANGE {
         sealed + 32
     } else {
         sealed

@@ -1,7 +1,7 @@
 // The parameter sets of Titanium 1.1: sets 1 to 6 are Titanium-CPA, 7 to 12 Titanium-CCA (003, tables 2.1 to 2.10); set 0 is Bench (01, Sources and what is
 // built).
 ghost use mathlib.Core.Path.{_≡_};
-ghost use Rattle.sets.specs.Table.{setOf, IsSet};
+ghost use Rattle.sets.specs.Table.{setOf};
 
 pub mod derived;
 
@@ -33,6 +33,8 @@ pub struct Parameters {
     pub w2: u32,
     // the root of order d3
     pub w3: u32,
+    // the set whose tables hold the powers of these roots
+    pub roots: usize,
     // the row length δ2 of Perm: 256, and 1 in set 0
     pub row: usize,
     // an error is a difference of two counts of eta bits
@@ -77,6 +79,7 @@ const SETS: [Parameters; 13] = [
         w1: 4,
         w2: 4,
         w3: 4,
+        roots: 0,
         row: 1,
         eta: 1,
         b1: 1,
@@ -102,6 +105,7 @@ const SETS: [Parameters; 13] = [
         w1: 56644,
         w2: 238,
         w3: 35772,
+        roots: 1,
         row: 256,
         eta: 4,
         b1: 7,
@@ -127,6 +131,7 @@ const SETS: [Parameters; 13] = [
         w1: 32904,
         w2: 68911,
         w3: 5170,
+        roots: 2,
         row: 256,
         eta: 4,
         b1: 5,
@@ -152,6 +157,7 @@ const SETS: [Parameters; 13] = [
         w1: 71157,
         w2: 30077,
         w3: 35007,
+        roots: 3,
         row: 256,
         eta: 4,
         b1: 5,
@@ -177,6 +183,7 @@ const SETS: [Parameters; 13] = [
         w1: 146766,
         w2: 168263,
         w3: 174,
+        roots: 4,
         row: 256,
         eta: 4,
         b1: 7,
@@ -202,6 +209,7 @@ const SETS: [Parameters; 13] = [
         w1: 1691,
         w2: 5454,
         w3: 332395,
+        roots: 5,
         row: 256,
         eta: 4,
         b1: 8,
@@ -227,6 +235,7 @@ const SETS: [Parameters; 13] = [
         w1: 1061167,
         w2: 186516,
         w3: 1169874,
+        roots: 6,
         row: 256,
         eta: 4,
         b1: 8,
@@ -252,6 +261,7 @@ const SETS: [Parameters; 13] = [
         w1: 69169,
         w2: 263,
         w3: 327393,
+        roots: 7,
         row: 256,
         eta: 4,
         b1: 7,
@@ -277,6 +287,7 @@ const SETS: [Parameters; 13] = [
         w1: 13192,
         w2: 4959,
         w3: 5516,
+        roots: 8,
         row: 256,
         eta: 4,
         b1: 5,
@@ -302,6 +313,7 @@ const SETS: [Parameters; 13] = [
         w1: 4136,
         w2: 75894,
         w3: 9282,
+        roots: 9,
         row: 256,
         eta: 4,
         b1: 4,
@@ -327,6 +339,7 @@ const SETS: [Parameters; 13] = [
         w1: 15791,
         w2: 235435,
         w3: 92,
+        roots: 10,
         row: 256,
         eta: 4,
         b1: 6,
@@ -352,6 +365,7 @@ const SETS: [Parameters; 13] = [
         w1: 874,
         w2: 596706,
         w3: 13502,
+        roots: 11,
         row: 256,
         eta: 4,
         b1: 7,
@@ -377,6 +391,7 @@ const SETS: [Parameters; 13] = [
         w1: 1061167,
         w2: 186516,
         w3: 1169874,
+        roots: 12,
         row: 256,
         eta: 4,
         b1: 7,
@@ -389,10 +404,39 @@ const SETS: [Parameters; 13] = [
     },
 ];
 
-// The numbers of a set from 0 to 12.
+// What stands for a number that is none of a set.
+const NONE: Parameters = Parameters {
+    scheme: 0,
+    q: 0,
+    n: 0,
+    k: 0,
+    d: 0,
+    t: 0,
+    cmp: 0,
+    d1: 0,
+    d2: 0,
+    d3: 0,
+    w1: 0,
+    w2: 0,
+    w3: 0,
+    roots: 0,
+    row: 0,
+    eta: 0,
+    b1: 0,
+    b2: 0,
+    ndec1: 0,
+    bytpcs: 0,
+    bytpca: 0,
+    zqrej: 0,
+    width: 0,
+};
+
+// The numbers of a set; all of them are 0 where there is no such set.
 pub fn parameters_of(set: usize) -> Parameters
-    requires { ⌜ IsSet set ⌝ }
     ensures { λ r. ⌜ r ≡ setOf set ⌝ }
 {
+    if LAST < set {
+        return NONE;
+    }
     SETS[set]
 }

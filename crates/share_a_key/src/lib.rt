@@ -39,6 +39,7 @@ pub fn share_a_key(
     let checked = scheme_checks::round_trip_checked(
         sets::EXCHANGE,
         set,
+        sets::parameters_of(set),
         seed.len(),
         message.len(),
         sent.len(),

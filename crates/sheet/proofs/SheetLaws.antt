@@ -10,6 +10,7 @@ use lib.IntN.{ℤ}
 use lib.ListN.{length, replicate}
 use Rattle.calls.specs.Outcome.{Outcome, accepted, refused}
 use Rattle.calls.specs.Region.{over}
+use Rattle.sets.specs.declared.Parameters.{Parameters}
 use Rattle.sets.specs.Table.{setOf}
 use Rattle.sets.specs.Derived.{halfModulus}
 use Rattle.packing.specs.Digits.{Digit}
@@ -26,11 +27,11 @@ use Rattle.sheet_rows.proofs.InputClaim.{rows-claim, rows-within}
 use Rattle.sheet.specs.Sheet.{sheetAnswer, answerText, rowsText, sheetOf, sheetFits}
 
 -- the text of rows that are filled
-pub accepted-text : (set : ℕ) (input : List ℕ) {o : Outcome} {noise : List ℤ} {sent read : List ℕ} → o ≡ rowsAnswer set input → o ≡ accepted
-    → InputRows set input noise sent read
-    → sheetText noise sent read (ceiling (setOf set)) (halfModulus (setOf set)) ≡ answerText (rowsAnswer set input) (rowsText set input)
+pub accepted-text : (set : ℕ) (p : Parameters) (input : List ℕ) {o : Outcome} {noise : List ℤ} {sent read : List ℕ} → p ≡ setOf set
+    → o ≡ rowsAnswer set input → o ≡ accepted → InputRows set input noise sent read
+    → sheetText noise sent read (ceiling p) (halfModulus p) ≡ answerText (rowsAnswer set input) (rowsText set input)
 unfolding rowsText
-accepted-text set input e a rows = rw (sym e ∙ a, rows .noise-is, rows .sent-is, rows .read-is)
+accepted-text set p input same e a rows = rw (same, sym e ∙ a, rows .noise-is, rows .sent-is, rows .read-is)
 
 -- the text of a refusal
 pub refused-text : {o : Outcome} {number place : ℕ} (text : List ℕ) → o ≡ refused number place → refusedText number place ≡ answerText o text

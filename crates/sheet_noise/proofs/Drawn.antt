@@ -4,13 +4,13 @@ use mathlib.Core.Path.{_≡_, refl, sym, ap, ap₂, _∙_}
 use mathlib.Core.Bool.{Bool, true}
 use mathlib.Core.List.{List, [], _∷_, map}
 use Prim.Native.Nat.{ℕ, zero, suc, _+_, _*_, _^_, _≤_, _<_}
-use native.Mathlib.Nat.{le-of-suc-le-suc, not-suc-le-zero, zero-add}
+use native.Mathlib.Nat.{zero-add}
 use native.Mathlib.Decide.{decLt}
 use native.Mathlib.Omega.{arith}
 use borrow.Author.Tests.{leb-true}
 use lib.Dec.{leb}
 use lib.IntN.{ℤ, pos, _+ℤ_, _*ℤ_, natAbs}
-use lib.ListN.{length, getD, drop, length-map, List·getD-eq-default}
+use lib.ListN.{length, getD, length-map, List·getD-eq-default}
 use Rattle.maths.specs.Vector.{at}
 use Rattle.maths.specs.Integer.{residue, centre, correlationℤ}
 use Rattle.maths.proofs.Vector.{at-past}
@@ -20,9 +20,9 @@ use Rattle.calls.specs.Region.{vector}
 use Rattle.calls.proofs.Region.{region-entry}
 use Rattle.sets.specs.declared.Parameters.{Parameters}
 use Rattle.sets.specs.Rules.{Rules, ByteRules}
-use Rattle.sets.specs.Table.{table, setOf, IsSet}
+use Rattle.sets.specs.Table.{table, setOf, Listed}
 use Rattle.sets.specs.Derived.{halfModulus, multiplierCount, errorCount, multiplierBits}
-use Rattle.sets.proofs.Rules.{rules, byteRules}
+use Rattle.sets.proofs.Rules.{listed-rules}
 use Rattle.sets.proofs.Tested.{passed, at-each}
 use Rattle.ceiling.proofs.Laws.{ceiling-most}
 use Rattle.draws.specs.Calls.{inTurn}
@@ -34,7 +34,7 @@ use Rattle.scheme.specs.Answers.{onlyResidues}
 use Rattle.scheme.specs.Encryption.{secretSeed, publicKey, errors, encryptedNumbers, keyNumbers}
 use Rattle.scheme.specs.Noise.{productNoise, droppedNoise, noise}
 use Rattle.scheme.proofs.Answers.{all-below}
-use Rattle.scheme.proofs.Conditions.{set-conditions}
+use Rattle.scheme.proofs.Conditions.{listed-conditions}
 use Rattle.scheme.proofs.Sizes.{noise-most}
 use Rattle.scheme.proofs.Bytes.{keyNumbers-below, encryptedNumbers-below, cipherSecond-at}
 use Rattle.sheet_noise.specs.Centred.{Residues, centredTerm, centredCorrelation, centredPart, centredProduct, centredDropped, centredNoise, drawnNoise}
@@ -63,18 +63,20 @@ map-residues q zs some =
           ];
     }
 
--- half the modulus of sets 1 to 12 is larger than every multiplier
+-- half a set's modulus has two rows or more, so that in sets 1 to 12 it is larger than every multiplier
 abbrev halfTests : Parameters → List Bool
-halfTests p = leb 512 (halfModulus p) ∷ []
+halfTests p = leb (2 * p .row) (halfModulus p) ∷ []
 
-halves-passed : passed halfTests (drop 1 table) ≡ true
+halves-passed : passed halfTests table ≡ true
 unfolding passed allOf table halfModulus
 halves-passed = refl
 
-pub half-large : (set : ℕ) → 1 ≤ set → IsSet set → 512 ≤ halfModulus (setOf set)
+half-large : (p : Parameters) → ByteRules p → Listed p → 512 ≤ halfModulus p
 unfolding setOf table
-half-large zero some h = absurd (not-suc-le-zero some)
-half-large (suc i) some h = leb-true 512 (halfModulus (setOf (suc i))) (at-each halfTests (drop 1 table) halves-passed i (le-of-suc-le-suc h) .0)
+half-large p bytes known =
+    let two : 2 * p .row ≤ halfModulus p =
+    leb-true _ _ (rw (known .listed) (at-each halfTests table halves-passed (known .set) (known .is-set) .0)) in
+    omega (arith, two, bytes .row-256)
 
 -- the whole numbers of two lists by their residues
 module _ (p : Parameters) (kept : Rules p) (bytes : ByteRules p) (r e : List ℤ) (rl : length r ≡ multiplierCount p) (el : length e ≡ errorCount p)
@@ -104,68 +106,66 @@ module _ (p : Parameters) (kept : Rules p) (bytes : ByteRules p) (r e : List ℤ
   unfolding centredProduct centredPart centredCorrelation productNoise correlationℤ
   product-drawn j m = sumℤ-cong (p .t) _ _ (λ i h. sumℤ-cong (p .k + 1) _ _ (λ l o. term-drawn i j l h m o))
 
-module _ (set : ℕ) (some : 1 ≤ set) (low : IsSet set) (secret sealing : List ℕ) where
+module _ (p : Parameters) (bytes : ByteRules p) (known : Listed p) (secret sealing : List ℕ) where
   -- the products' part of what is drawn
-  pub drawn-product : (j : ℕ) → j < setOf set .d
-      → centredProduct (setOf set) (map (residue (setOf set .q)) (multipliersDrawn (setOf set) sealing))
-      (map (residue (setOf set .q)) (errors (setOf set) secret)) j
-      ≡ productNoise (setOf set) (multipliersDrawn (setOf set) sealing) (errors (setOf set) secret) j
+  pub drawn-product : (j : ℕ) → j < p .d
+      → centredProduct p (map (residue (p .q)) (multipliersDrawn p sealing)) (map (residue (p .q)) (errors p secret)) j
+      ≡ productNoise p (multipliersDrawn p sealing) (errors p secret) j
   unfolding errors
   drawn-product j h =
-      let kept = rules set low in
-      product-drawn (setOf set) kept (byteRules set some low) (multipliersDrawn (setOf set) sealing) (errors (setOf set) secret)
-      (multipliersDrawn-length (setOf set) sealing) (errorsDrawn-length (setOf set) (secretState (setOf set) secret))
+      let kept = listed-rules p known in
+      product-drawn p kept bytes (multipliersDrawn p sealing) (errors p secret) (multipliersDrawn-length p sealing)
+      (errorsDrawn-length p (secretState p secret))
       (λ k l. omega (
         arith,
-        multipliersDrawn-most (setOf set) sealing k l,
-        power-most (multiplierBits (setOf set) k) (bits-most (setOf set) kept k),
-        half-large set some low,
+        multipliersDrawn-most p sealing k l,
+        power-most (multiplierBits p k) (bits-most p kept k),
+        half-large p bytes known,
       ))
-      (λ k l. omega (arith, errorsDrawn-most (setOf set) (secretState (setOf set) secret) k l, half-large set some low))
+      (λ k l. omega (arith, errorsDrawn-most p (secretState p secret) k l, half-large p bytes known))
       j h
 
   -- the noise over the residues drawn
-  pub noise-drawn : (ms es before : List ℕ) → ms ≡ map (residue (setOf set .q)) (multipliersDrawn (setOf set) sealing)
-      → es ≡ map (residue (setOf set .q)) (errors (setOf set) secret)
-      → inTurn (λ j. centredNoise (setOf set) ms es (at before j) j) 0 (setOf set .d) ≡ inTurn (drawnNoise (setOf set) secret sealing before) 0 (setOf set .d)
+  pub noise-drawn : (ms es before : List ℕ) → ms ≡ map (residue (p .q)) (multipliersDrawn p sealing)
+      → es ≡ map (residue (p .q)) (errors p secret)
+      → inTurn (λ j. centredNoise p ms es (at before j) j) 0 (p .d) ≡ inTurn (drawnNoise p secret sealing before) 0 (p .d)
   unfolding centredNoise drawnNoise
   noise-drawn ms es before m e =
-      turn-cong _ _ 0 (setOf set .d)
-      (λ j h. ap (λ (z : ℤ). z +ℤ centredDropped (setOf set) (at before j))
-      (ap₂ (λ (xs ys : List ℕ). centredProduct (setOf set) xs ys j) m e ∙ drawn-product j (rw zero-add at h)))
+      turn-cong _ _ 0 (p .d)
+      (λ j h. ap (λ (z : ℤ). z +ℤ centredDropped p (at before j))
+      (ap₂ (λ (xs ys : List ℕ). centredProduct p xs ys j) m e ∙ drawn-product j (rw zero-add at h)))
 
-module _ (set : ℕ) (some : 1 ≤ set) (low : IsSet set) (seed message sealing : List ℕ) where
+module _ (p : Parameters) (bytes : ByteRules p) (known : Listed p) (seed message sealing : List ℕ) where
   -- place j from c2 before packing
-  noise-place : (j : ℕ) → j < setOf set .d
-      → drawnNoise (setOf set) (secretSeed (setOf set) seed) sealing (encryptedNumbers (setOf set) (publicKey (setOf set) seed) message sealing) j
-      ≡ noise (setOf set) seed message sealing j
+  noise-place : (j : ℕ) → j < p .d
+      → drawnNoise p (secretSeed p seed) sealing (encryptedNumbers p (publicKey p seed) message sealing) j
+      ≡ noise p seed message sealing j
   unfolding drawnNoise centredDropped noise droppedNoise
-  noise-place j h = rw (cipherSecond-at (set-conditions set some low) (publicKey (setOf set) seed) message sealing j h)
+  noise-place j h = rw (cipherSecond-at (listed-conditions p bytes known) (publicKey p seed) message sealing j h)
 
   -- the noise of every place
-  pub noise-places : (secret before public : List ℕ) → secret ≡ secretSeed (setOf set) seed → public ≡ publicKey (setOf set) seed
-      → before ≡ encryptedNumbers (setOf set) public message sealing
-      → inTurn (drawnNoise (setOf set) secret sealing before) 0 (setOf set .d) ≡ inTurn (noise (setOf set) seed message sealing) 0 (setOf set .d)
+  pub noise-places : (secret before public : List ℕ) → secret ≡ secretSeed p seed → public ≡ publicKey p seed
+      → before ≡ encryptedNumbers p public message sealing
+      → inTurn (drawnNoise p secret sealing before) 0 (p .d) ≡ inTurn (noise p seed message sealing) 0 (p .d)
   noise-places secret before public s k b =
-      let made : before ≡ encryptedNumbers (setOf set) (publicKey (setOf set) seed) message sealing =
-      b ∙ ap (λ (pk : List ℕ). encryptedNumbers (setOf set) pk message sealing) k in
-      ap₂ (λ (xs ys : List ℕ). inTurn (drawnNoise (setOf set) xs sealing ys) 0 (setOf set .d)) s made
-      ∙ turn-cong _ _ 0 (setOf set .d) (λ j h. noise-place j (rw zero-add at h))
+      let made : before ≡ encryptedNumbers p (publicKey p seed) message sealing =
+      b ∙ ap (λ (pk : List ℕ). encryptedNumbers p pk message sealing) k in
+      ap₂ (λ (xs ys : List ℕ). inTurn (drawnNoise p xs sealing ys) 0 (p .d)) s made
+      ∙ turn-cong _ _ 0 (p .d) (λ j h. noise-place j (rw zero-add at h))
 
   -- every place of the list is small: no noise exceeds the ceiling
-  pub noise-small : (out : List ℤ) → out ≡ inTurn (noise (setOf set) seed message sealing) 0 (setOf set .d) → (j : ℕ) → natAbs (getD out j (pos 0)) < 2 ^ 62
+  pub noise-small : (out : List ℤ) → out ≡ inTurn (noise p seed message sealing) 0 (p .d) → (j : ℕ) → natAbs (getD out j (pos 0)) < 2 ^ 62
   noise-small out made j =
-      elim (decLt j (setOf set .d)) [
-        | yes h ↦ rw (made, turn-at (noise (setOf set) seed message sealing) 0 (setOf set .d) j (pos 0) h, zero-add)
-            (omega (arith, noise-most (set-conditions set some low) seed message sealing j h, ceiling-most (setOf set) (rules set low)))
+      elim (decLt j (p .d)) [
+        | yes h ↦ rw (made, turn-at (noise p seed message sealing) 0 (p .d) j (pos 0) h, zero-add)
+            (omega (arith, noise-most (listed-conditions p bytes known) seed message sealing j h, ceiling-most p (listed-rules p known)))
         | no h ↦ let past : length out ≤ j = rw (made, turn-length) (omega arith) in rw (List·getD-eq-default out (pos 0) past) (omega arith)
       ]
 
   -- the numbers of the public key are residues
-  pub key-below : (public : List ℕ) → public ≡ publicKey (setOf set) seed → onlyResidues (setOf set .q) (keyNumbers (setOf set) public) ≡ true
-  key-below public e =
-      rw e (all-below (setOf set .q) (keyNumbers (setOf set) (publicKey (setOf set) seed)) (keyNumbers-below (set-conditions set some low) seed))
+  pub key-below : (public : List ℕ) → public ≡ publicKey p seed → onlyResidues (p .q) (keyNumbers p public) ≡ true
+  key-below public e = rw e (all-below (p .q) (keyNumbers p (publicKey p seed)) (keyNumbers-below (listed-conditions p bytes known) seed))
 
   -- and so is c2 before packing
-  pub before-residues : (public before : List ℕ) → before ≡ encryptedNumbers (setOf set) public message sealing → Residues (setOf set .q) before
-  before-residues public before e = rw e (record { each = encryptedNumbers-below (set-conditions set some low) public message sealing })
+  pub before-residues : (public before : List ℕ) → before ≡ encryptedNumbers p public message sealing → Residues (p .q) before
+  before-residues public before e = rw e (record { each = encryptedNumbers-below (listed-conditions p bytes known) public message sealing })

@@ -12,9 +12,10 @@ use Rattle.maths.specs.Integer.{residue}
 use Rattle.calls.specs.Region.{region, over}
 use Rattle.calls.proofs.Region.{over-lent, over-take, region-part, region-over-same}
 use Rattle.sets.specs.declared.Parameters.{Parameters}
-use Rattle.sets.specs.Table.{setOf, IsSet}
+use Rattle.sets.specs.Table.{Listed}
+use Rattle.sets.specs.Rules.{ByteRules}
 use Rattle.sets.specs.Derived.{multiplierCount, errorCount}
-use Rattle.sets.proofs.Rules.{rules, byteRules}
+use Rattle.sets.proofs.Rules.{listed-rules}
 use Rattle.draws.specs.Uniform.{Drawn, taken, ended, exhausted}
 use Rattle.byte_source.specs.Source.{State, initial}
 use Rattle.samplers.specs.Blocks.{Sampled, uniform, onto, refusal, uniformAnswer}
@@ -31,14 +32,12 @@ pub record WorkRoom (p : Parameters) : Type 0 where
   pub all-in : errorCount p + multiplierCount p ≤ workLength p
   pub few : errorCount p + multiplierCount p ≤ 18432
 
-pub work-room : (set : ℕ) → 1 ≤ set → IsSet set → WorkRoom (setOf set)
+pub work-room : (p : Parameters) → ByteRules p → Listed p → WorkRoom p
 unfolding workLength errorCount multiplierCount
-work-room set some low =
-    let kept = rules set low in
-    let bytes = byteRules set some low in
-    let shorter : setOf set .t * (setOf set .k + 1) ≤ setOf set .t * setOf set .d1 =
-    mul-le-mul-left (setOf set .t) (omega (arith, kept .holds1, kept .some-d)) in
-    record { secret-in = omega arith; all-in = omega arith; few = omega (arith, errors-few (setOf set) kept bytes, kept .most-multipliers) }
+work-room p bytes known =
+    let kept = listed-rules p known in
+    let shorter : p .t * (p .k + 1) ≤ p .t * p .d1 = mul-le-mul-left (p .t) (omega (arith, kept .holds1, kept .some-d)) in
+    record { secret-in = omega arith; all-in = omega arith; few = omega (arith, errors-few p kept bytes, kept .most-multipliers) }
 
 -- a draw that is taken has numbers
 taken-absurd : (drawn : Drawn) → ((xs : List ℕ) → drawn ≡ taken xs → ⊥) → isTaken drawn ≡ true → ⊥
@@ -46,24 +45,24 @@ taken-absurd (taken xs) h t = h xs refl
 taken-absurd (ended xs run) h t = let z : _≡_ {A = ℕ} 0 1 = cc in omega arith
 taken-absurd (exhausted i) h t = let z : _≡_ {A = ℕ} 0 1 = cc in omega arith
 
-module _ (p r : Parameters) (e : r ≡ p) (seed : List ℕ) (len : ℕ) (l : len ≡ r .d3) where
+module _ (p : Parameters) (seed : List ℕ) (len : ℕ) (l : len ≡ p .d3) where
   -- the draw of the secret
-  draw-is : uniform r (initial seed) (r .bytpcs) len ≡ secretSampled p seed
+  draw-is : uniform p (initial seed) (p .bytpcs) len ≡ secretSampled p seed
   unfolding secretSampled
-  draw-is = ap (uniform r (initial seed) (r .bytpcs)) l ∙ ap (λ (s : Parameters). uniform s (initial seed) (s .bytpcs) (s .d3)) e
+  draw-is = ap (uniform p (initial seed) (p .bytpcs)) l
 
   -- the state that it leaves
-  pub secret-state : (next : State) → onto next ≡ uniformAnswer r (initial seed) (r .bytpcs) len → next ≡ secretState p seed
+  pub secret-state : (next : State) → onto next ≡ uniformAnswer p (initial seed) (p .bytpcs) len → next ≡ secretState p seed
   unfolding secretState
   secret-state next answer =
-      answer-onto r (initial seed) (r .bytpcs) len next (sym answer) .next-is ∙ ap (λ (s : Sampled). s .next) draw-is
+      answer-onto p (initial seed) (p .bytpcs) len next (sym answer) .next-is ∙ ap (λ (s : Sampled). s .next) draw-is
 
   -- a draw that is taken is not refused
-  pub never-refused : 384 ≤ r .bytpcs → (number : ℕ) → refusal number ≡ uniformAnswer r (initial seed) (r .bytpcs) len
+  pub never-refused : 384 ≤ p .bytpcs → (number : ℕ) → refusal number ≡ uniformAnswer p (initial seed) (p .bytpcs) len
       → isTaken (secretDrawn p seed) ≡ true → ⊥
   unfolding secretDrawn
   never-refused large number answer t =
-      taken-absurd (uniform r (initial seed) (r .bytpcs) len .drawn) (answer-refusal r (initial seed) (r .bytpcs) len large number (sym answer) .1)
+      taken-absurd (uniform p (initial seed) (p .bytpcs) len .drawn) (answer-refusal p (initial seed) (p .bytpcs) len large number (sym answer) .1)
       (ap (λ (s : Sampled). isTaken (s .drawn)) draw-is ∙ t)
 
 -- the front of a slice of which the first n entries came back

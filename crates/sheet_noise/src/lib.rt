@@ -3,12 +3,12 @@ use samplers::Advance;
 use sets::Parameters;
 ghost use mathlib.Core.Path.{_≡_};
 ghost use mathlib.Core.Bool.{true};
-ghost use Prim.Native.Nat.{ℕ, _+_, _^_, _≤_, _<_};
+ghost use Prim.Native.Nat.{ℕ, _^_, _<_};
 ghost use lib.IntN.{pos, natAbs};
 ghost use lib.ListN.{length, getD};
 ghost use Rattle.maths.specs.Vector.{at};
 ghost use Rattle.sets.specs.Rules.{Rules, ByteRules};
-ghost use Rattle.sets.specs.Table.{setOf, IsSet};
+ghost use Rattle.sets.specs.Table.{Listed};
 ghost use Rattle.sets.specs.Derived.{multiplierCount, errorCount};
 ghost use Rattle.draws.specs.Calls.{inTurn};
 ghost use Rattle.samplers.specs.Seeded.{secretDrawn};
@@ -47,12 +47,11 @@ fn fill(p: Parameters, multipliers: &[u32], errors: &[u32], before: &[u32], nois
 }
 
 // Draws the errors of a secret seed into the front of the work slice.
-fn draw_errors(set: usize, secret: &[u8], work: &mut [u32])
-    requires { ⌜ (1 ≤ set) × IsSet set × (length (now secret) ≡ 32) × (isTaken (secretDrawn (setOf set) (now secret)) ≡ true)
-        × (length (now work) ≡ workLength (setOf set)) ⌝ }
-    ensures { λ _. ⌜ ErrorsHeld (setOf set) (now (secret .entry)) (now (work .exit)) ⌝ }
+fn draw_errors(p: Parameters, secret: &[u8], work: &mut [u32])
+    requires { ⌜ ByteRules p × Listed p × (length (now secret) ≡ 32) × (isTaken (secretDrawn p (now secret)) ≡ true)
+        × (length (now work) ≡ workLength p) ⌝ }
+    ensures { λ _. ⌜ ErrorsHeld p (now (secret .entry)) (now (work .exit)) ⌝ }
 {
-    let p = sets::parameters_of(set);
     let size = p.d3;
     let count = sets::derived::error_count(p);
     let Advance::Counter(counter) = samplers::residues_from(
@@ -68,42 +67,40 @@ fn draw_errors(set: usize, secret: &[u8], work: &mut [u32])
 }
 
 // Draws the errors and, after them, the multipliers.
-fn draw(set: usize, secret: &[u8], sealing: &[u8], work: &mut [u32])
-    requires { ⌜ (1 ≤ set) × IsSet set × (length (now secret) ≡ 32) × (length (now sealing) ≡ 32) × (isTaken (secretDrawn (setOf set) (now secret)) ≡ true)
-        × (length (now work) ≡ workLength (setOf set)) ⌝ }
-    ensures { λ _. ⌜ Held (setOf set) (now (secret .entry)) (now (sealing .entry)) (now (work .exit)) ⌝ }
+fn draw(p: Parameters, secret: &[u8], sealing: &[u8], work: &mut [u32])
+    requires { ⌜ ByteRules p × Listed p × (length (now secret) ≡ 32) × (length (now sealing) ≡ 32) × (isTaken (secretDrawn p (now secret)) ≡ true)
+        × (length (now work) ≡ workLength p) ⌝ }
+    ensures { λ _. ⌜ Held p (now (secret .entry)) (now (sealing .entry)) (now (work .exit)) ⌝ }
 {
-    let p = sets::parameters_of(set);
     let start = sets::derived::error_count(p);
     let end = start + sets::derived::multiplier_count(p);
-    draw_errors(set, secret, work);
+    draw_errors(p, secret, work);
     samplers::multipliers_from(p, sealing, &mut work[start..end]);
 }
 
 // The noise from c2 before packing and the secret seed.
 fn noise_from(
-    set: usize,
+    p: Parameters,
     secret: &[u8],
     sealing: &[u8],
     before: &[u32],
     noise: &mut [i64],
     work: &mut [u32],
 )
-    requires { ⌜ (1 ≤ set) × IsSet set × (length (now secret) ≡ 32) × (length (now sealing) ≡ 32) × (isTaken (secretDrawn (setOf set) (now secret)) ≡ true)
-        × Residues (setOf set .q) (now before) × (length (now before) ≡ setOf set .d) × (length (now noise) ≡ setOf set .d)
-        × (length (now work) ≡ workLength (setOf set)) ⌝ }
-    ensures { λ _. ⌜ now (noise .exit) ≡ inTurn (drawnNoise (setOf set) (now (secret .entry)) (now (sealing .entry)) (now (before .entry))) 0 (setOf set .d) ⌝ }
+    requires { ⌜ ByteRules p × Listed p × (length (now secret) ≡ 32) × (length (now sealing) ≡ 32) × (isTaken (secretDrawn p (now secret)) ≡ true)
+        × Residues (p .q) (now before) × (length (now before) ≡ p .d) × (length (now noise) ≡ p .d)
+        × (length (now work) ≡ workLength p) ⌝ }
+    ensures { λ _. ⌜ now (noise .exit) ≡ inTurn (drawnNoise p (now (secret .entry)) (now (sealing .entry)) (now (before .entry))) 0 (p .d) ⌝ }
 {
-    let p = sets::parameters_of(set);
     let start = sets::derived::error_count(p);
     let end = start + sets::derived::multiplier_count(p);
-    draw(set, secret, sealing, work);
+    draw(p, secret, sealing, work);
     fill(p, &work[start..end], &work[0..start], before, noise);
 }
 
 // The noise, with room for the secret seed and for c2 before packing in lent slices.
 fn noise_with_buffers(
-    set: usize,
+    p: Parameters,
     seed: &[u8],
     message: &[u8],
     sealing: &[u8],
@@ -113,23 +110,22 @@ fn noise_with_buffers(
     secret: &mut [u8],
     before: &mut [u32],
 )
-    requires { ⌜ (1 ≤ set) × IsSet set × (length (now seed) ≡ 32) × (length (now message) ≡ 32) × (length (now sealing) ≡ 32)
-        × (now public ≡ publicKey (setOf set) (now seed)) × (isTaken (secretDrawn (setOf set) (secretSeed (setOf set) (now seed))) ≡ true)
-        × (length (now noise) ≡ setOf set .d) × (length (now work) ≡ workLength (setOf set)) × (length (now secret) ≡ 32)
-        × (length (now before) ≡ setOf set .d) ⌝ }
+    requires { ⌜ ByteRules p × Listed p × (length (now seed) ≡ 32) × (length (now message) ≡ 32) × (length (now sealing) ≡ 32)
+        × (now public ≡ publicKey p (now seed)) × (isTaken (secretDrawn p (secretSeed p (now seed))) ≡ true)
+        × (length (now noise) ≡ p .d) × (length (now work) ≡ workLength p) × (length (now secret) ≡ 32)
+        × (length (now before) ≡ p .d) ⌝ }
     ensures { λ _. ⌜ now (noise .exit)
-        ≡ inTurn (scheme.noise (setOf set) (now (seed .entry)) (now (message .entry)) (now (sealing .entry))) 0 (setOf set .d) ⌝ }
+        ≡ inTurn (scheme.noise p (now (seed .entry)) (now (message .entry)) (now (sealing .entry))) 0 (p .d) ⌝ }
 {
-    let p = sets::parameters_of(set);
     byte_source::source_bytes(p, seed, 0, secret);
-    cpa_encrypt::numbers_before_packing(set, public, message, sealing, before, work);
-    noise_from(set, secret, sealing, before, noise, work);
+    cpa_encrypt::numbers_before_packing(p, public, message, sealing, before, work);
+    noise_from(p, secret, sealing, before, noise, work);
 }
 
 // Writes the noise of every place of the sealing of a message; `public` is the public key of the key seed, and `work` is lent for the way: its
 // caller clears it.
 pub fn noise_of(
-    set: usize,
+    p: Parameters,
     seed: &[u8],
     message: &[u8],
     sealing: &[u8],
@@ -137,18 +133,18 @@ pub fn noise_of(
     noise: &mut [i64],
     work: &mut [u32],
 )
-    requires { ⌜ (1 ≤ set) × IsSet set × (length (now seed) ≡ 32) × (length (now message) ≡ 32) × (length (now sealing) ≡ 32)
-        × (now public ≡ publicKey (setOf set) (now seed)) × (isTaken (secretDrawn (setOf set) (secretSeed (setOf set) (now seed))) ≡ true)
-        × (length (now noise) ≡ setOf set .d) × (length (now work) ≡ workLength (setOf set)) ⌝ }
+    requires { ⌜ ByteRules p × Listed p × (length (now seed) ≡ 32) × (length (now message) ≡ 32) × (length (now sealing) ≡ 32)
+        × (now public ≡ publicKey p (now seed)) × (isTaken (secretDrawn p (secretSeed p (now seed))) ≡ true)
+        × (length (now noise) ≡ p .d) × (length (now work) ≡ workLength p) ⌝ }
     ensures values { λ _.
-        ⌜ now (noise .exit) ≡ inTurn (scheme.noise (setOf set) (now (seed .entry)) (now (message .entry)) (now (sealing .entry))) 0 (setOf set .d) ⌝ }
+        ⌜ now (noise .exit) ≡ inTurn (scheme.noise p (now (seed .entry)) (now (message .entry)) (now (sealing .entry))) 0 (p .d) ⌝ }
     ensures sizes { λ _. ⌜ ((j : ℕ) → natAbs (getD (now (noise .exit)) j (pos 0)) < 2 ^ 62) ⌝ }
 {
-    let d = sets::parameters_of(set).d;
+    let d = p.d;
     let mut secret = [0u8; 32];
     let mut before = [0u32; 256];
     noise_with_buffers(
-        set,
+        p,
         seed,
         message,
         sealing,

@@ -11,6 +11,7 @@ use Rattle.maths.proofs.Vector.{tabulate-self}
 use Rattle.calls.specs.Outcome.{Outcome, accepted, leaves}
 use Rattle.calls.proofs.Outcome.{leaves-accepted}
 use Rattle.calls.proofs.Region.{region-part, region-length}
+use Rattle.sets.specs.declared.Parameters.{Parameters}
 use Rattle.sets.specs.Table.{none, table, setOf}
 use Rattle.sets.proofs.Rules.{rules}
 use Rattle.ceiling.proofs.Laws.{ceiling-most}
@@ -112,14 +113,14 @@ bench-filled zero input o noise₀ noise sent₀ sent read₀ read low size e n 
 bench-filled (suc set) input o noise₀ noise sent₀ sent read₀ read low size e n s r = absurd (omega arith)
 
 -- the rows of an encryption set
-pub seeded-filled : (set : ℕ) (input : List ℕ) (o : Outcome) (noise : List ℤ) (sent read : List ℕ) → 1 ≤ set
+pub seeded-filled : (set : ℕ) (p : Parameters) (input : List ℕ) (o : Outcome) (noise : List ℤ) (sent read : List ℕ) → 1 ≤ set → p ≡ setOf set
     → let seed = take (33 - 1) (drop 1 input) in
     let message = take (97 - 65) (drop 65 input) in
     let sealing = take (65 - 33) (drop 33 input) in
-    o ≡ keyDraws (setOf set) seed → (o ≡ accepted → SeededRows (setOf set) seed message sealing noise sent read)
+    o ≡ keyDraws p seed → (o ≡ accepted → SeededRows p seed message sealing noise sent read)
     → (o ≡ rowsAnswer set input) × (o ≡ accepted → InputRows set input noise sent read)
 unfolding rowsAnswer
-seeded-filled set input o noise sent read some e f =
+seeded-filled set p input o noise sent read some same e f =
     rw (
       seeded-noises set input some,
       seeded-sent set input some,
@@ -128,6 +129,7 @@ seeded-filled set input o noise sent read some e f =
       ← key-part input,
       ← message-part input,
       ← sealing-part input,
+      ← same,
     ) (e, f)
 
 -- lengths of an input and of the rows of set 0

@@ -19,7 +19,7 @@ use Rattle.sheet_parts.specs.Checks.{hasSheet}
 use Rattle.sheet_rows.specs.Input.{sheetWork}
 
 -- an encryption set is a set
-pub encryption-set : (set : ℕ) → isEncryption set ≡ true → IsSet set
+encryption-set : (set : ℕ) → isEncryption set ≡ true → IsSet set
 unfolding isEncryption none
 encryption-set set own =
     elim (decLt lastSet set) [

@@ -4,10 +4,14 @@ use mathlib.Core.Path.{_∙_}
 use native.Mathlib.Omega.{arith}
 use borrow.Author.Needs.{needs}
 use borrow.Author.Tests.{lt-ltb, le-ltb}
+use Rattle.sets.proofs.Rules.{rules}
 use Rattle.sets.specs.Table.{lastSet}
 use Rattle.c_lengths.specs.Lengths.{lengthOf}
 use Rattle.c_lengths.proofs.titanium_ciphertext_bytes.Statement.{statement}
 use Rattle.c_lengths.proofs.titanium_ciphertext_bytes.Tie as tie
+
+ciphertext-bytes-requires : tie.Need-ciphertext-bytes-requires
+ciphertext-bytes-requires c κs = rw (← c .parameters-of .ensures) at (rules (c .before .before .args .set) (omega (arith, c .before .if1 .left)))
 
 returns : tie.Need-returns
 unfolding lengthOf
@@ -15,7 +19,9 @@ returns c = rw (lt-ltb lastSet (c .before .args .set) (c .if1 .taken))
 
 returns-2 : tie.Need-returns-2
 unfolding lengthOf
-returns-2 c = c .ciphertext-bytes .ensures ∙ rw (le-ltb lastSet (c .before .before .args .set) (omega (arith, c .before .if1 .left)))
+returns-2 c =
+    c .ciphertext-bytes .ensures
+    ∙ rw (c .before .parameters-of .ensures, le-ltb lastSet (c .before .before .before .args .set) (omega (arith, c .before .before .if1 .left)))
 
 pub titanium-ciphertext-bytes-spec : {M : Type 1} → statement M
-titanium-ciphertext-bytes-spec = tie.close (tie.spec returns (λ c κs. search needs) returns-2)
+titanium-ciphertext-bytes-spec = tie.close (tie.spec returns (λ c κs. search needs) ciphertext-bytes-requires returns-2)

@@ -2,8 +2,6 @@
 -- Assumes nothing.
 use mathlib.Core.Path.{_∙_}
 use native.Mathlib.Omega.{arith}
-use Rattle.sets.specs.Table.{setOf}
-use Rattle.sets.proofs.Rules.{byteRules}
 use Rattle.cpa_decrypt.specs.Decrypted.{decryptedMessageFrom}
 use Rattle.cpa_decrypt.proofs.Bits.{decryptedBitsFrom-below}
 use borrow.Author.Needs.{needs}
@@ -15,9 +13,9 @@ bytes-of-bits-requires c κs =
     let at-read-bits = c .before .before .before .before .before .before .before .before in
     let at-shared-slice-known = at-read-bits .before .before .before .before .before .before .before .before .before in
     let start = at-shared-slice-known .before in
-    let set = start .args .set in (
-      rw (at-read-bits .read-bits .ensures) (decryptedBitsFrom-below (setOf set) (start .args .stored .now) (start .args .ciphertext .now)),
-      omega (arith, at-read-bits .read-bits .kept, start .pre .6, start .pre .7, byteRules set (start .pre .0) (start .pre .1) .message-bits),
+    let p = start .args .p in (
+      rw (at-read-bits .read-bits .ensures) (decryptedBitsFrom-below p (start .args .stored .now) (start .args .ciphertext .now)),
+      omega (arith, at-read-bits .read-bits .kept, start .pre .6, start .pre .7, start .pre .0 .message-bits),
     )
 
 returns : tie.Need-returns

@@ -4,7 +4,6 @@ use mathlib.Core.Path.{sym, ap, _∙_}
 use mathlib.Core.Bool.{not}
 use Rattle.calls.specs.Outcome.{outcome, accepted, refuse}
 use Rattle.calls.proofs.Outcome.{accepted-refused}
-use Rattle.sets.specs.Table.{setOf}
 use Rattle.samplers.specs.Seeded.{secretDrawn, publicDrawn}
 use Rattle.scheme.specs.Answers.{isTaken, allTaken}
 use Rattle.cpa_keygen.proofs.Drawn.{refuse-taken, draw-accepted, draw-refused}
@@ -23,19 +22,18 @@ store-vectors-requires c κs =
       pre .0,
       pre .1,
       pre .3,
-      secret-residues (start .args .set) (pre .0) (pre .1) (start .args .seedsk .now) (secret .last .1 .1 .0) (secret .ensures .1 (drawn .0))
+      secret-residues (start .args .p) (pre .0) (pre .1) (start .args .seedsk .now) (secret .last .1 .1 .0) (secret .ensures .1 (drawn .0))
           (secret .kept .1 .1 .0 ∙ pre .4),
     )
 
 returns : tie.Need-returns
 returns c =
     let start = c .before .before .before .before .before .before .before .before .before in
-    let p = setOf (start .args .set) in
+    let p = start .args .p in
     let told = ap outcome (c .enum-told2 .given .1) in
     let public = refuse (not (allTaken (p .t) (publicDrawn p (start .args .seedpk .now)))) 5 0 accepted in
     let decided =
-    draw-refused (isTaken (secretDrawn p (start .args .seedsk .now))) public
-    (sym (c .before .before .before .before .draw-secret .ensures .0) ∙ told) in
+    draw-refused (isTaken (secretDrawn p (start .args .seedsk .now))) public (sym (c .before .before .before .before .draw-secret .ensures .0) ∙ told) in
     (told ∙ decided, λ e. absurd (accepted-refused e told))
 
 returns-2 : tie.Need-returns-2
@@ -49,7 +47,7 @@ returns-2 c =
     let drawn = draw-accepted _ accepted (sym (secret .ensures .0) ∙ ap outcome (at-enum-told .enum-told .given .1)) in (
       vectors .ensures .0 ∙ sym (refuse-taken _ (drawn .0)),
       λ e.
-          key-stored (start .args .set) (pre .0) (pre .1) (start .args .seedsk .now) (secret .last .1 .1 .0) (secret .ensures .1 (drawn .0))
+          key-stored (start .args .p) (pre .0) (pre .1) (start .args .seedsk .now) (secret .last .1 .1 .0) (secret .ensures .1 (drawn .0))
           (secret .kept .1 .1 .0 ∙ pre .4) (start .args .seedpk .now) _
           (vectors .ensures .1 (draw-accepted _ accepted (sym (vectors .ensures .0) ∙ e) .0)),
     )

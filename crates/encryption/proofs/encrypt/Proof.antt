@@ -2,7 +2,6 @@
 -- Assumes nothing.
 use mathlib.Core.Path.{_≡_, sym, ap, _∙_}
 use Prim.Native.Nat.{ℕ}
-use native.Mathlib.Omega.{arith}
 use borrow.Author.Needs.{needs}
 use lib.ListN.{length, replicate}
 use Rattle.calls.specs.Outcome.{outcome, accepted}
@@ -12,14 +11,21 @@ use Rattle.sets.proofs.Schemes.{encryption-only}
 use Rattle.sets.proofs.Lengths.{ciphertext-other}
 use Rattle.scheme.specs.Encryption as scheme
 use Rattle.scheme.specs.Answers.{encryptChecks, encryptDraws, encryptAnswer, ciphertextLeft, encryptWork}
-use Rattle.scheme.proofs.Answers.{encrypt-passed}
+use Rattle.scheme.proofs.Answers.{own-listed, own-bytes, encrypt-passed}
 use Rattle.scheme_checks.proofs.Laws.{one-refused, one-drawn}
 use Rattle.encryption.proofs.encrypt.Statement.{statement}
 use Rattle.encryption.proofs.encrypt.Tie as tie
 
 -- the entry of the function, from the point where the checks decided
 abbrev start-of : tie.After-enum-told → tie.Start
-start-of c = c .before .before .before .before .before .before .before .before
+start-of c = c .before .before .before .before .before .before .before .before .before
+
+-- the set's record, from there
+abbrev known : tie.After-enum-told → tie.After-parameters-of
+known c = c .before .before .before
+
+encrypt-checked-requires : tie.Need-encrypt-checked-requires
+encrypt-checked-requires c κs = c .parameters-of .ensures
 
 -- the checks passed
 passed : (c : tie.After-enum-told) → let args = start-of c .args in
@@ -31,7 +37,7 @@ passed c = sym (c .before .before .encrypt-checked .ensures) ∙ ap outcome (c .
 returns : tie.Need-returns
 unfolding isEncryption encryptAnswer ciphertextLeft encryptWork
 returns c =
-    let args = c .before .before .before .before .before .before .before .before .args in
+    let args = c .before .before .before .before .before .before .before .before .before .args in
     let p = setOf (args .set) in
     one-refused (encryptDraws p (args .public .now)) (args .work .now)
     (scheme.ciphertext p (args .public .now) (args .message .now) (args .seed .now)) (args .ciphertext .now)
@@ -42,7 +48,15 @@ encrypt-requires c κs =
     let checked = c .before .before in
     let set = start-of checked .args .set in
     let fit = encrypt-passed isEncryption set _ _ _ _ _ (passed checked) in
-    (fit .0 .0, omega (arith, fit .0 .1), fit .1, fit .2, fit .3, fit .4 ∙ ciphertext-other set (encryption-only set (fit .0 .2)), fit .5)
+    rw (known checked .parameters-of .ensures) (
+      own-bytes isEncryption set (fit .0),
+      own-listed isEncryption set (fit .0),
+      fit .1,
+      fit .2,
+      fit .3,
+      fit .4 ∙ ciphertext-other set (encryption-only set (fit .0 .2)),
+      fit .5,
+    )
 
 returns-2 : tie.Need-returns-2
 unfolding encryptAnswer ciphertextLeft encryptWork
@@ -52,12 +66,13 @@ returns-2 c =
     let args = start-of checked .args in
     let p = setOf (args .set) in
     let made = after .encrypt in
+    let left = rw (known checked .parameters-of .ensures) at (made .ensures) in
     one-drawn (encryptDraws p (args .public .now)) (args .work .now)
     (scheme.ciphertext p (args .public .now) (args .message .now) (args .seed .now)) (args .ciphertext .now)
-    (passed checked) (made .ensures) (c .before .before .clear .ensures ∙ ap (λ (n : ℕ). replicate n 0) (made .kept .1 .1 .1 .1 .1 .0))
+    (passed checked) left (c .before .before .clear .ensures ∙ ap (λ (n : ℕ). replicate n 0) (made .kept .1 .1 .1 .1 .1 .0))
 
 pub encrypt-spec : {M : Type 1} → statement M
 encrypt-spec =
     tie.close
-    (tie.spec (λ c κs. search needs) (λ c. search needs) (λ c. search needs) returns encrypt-requires (λ c κs. search needs)
+    (tie.spec (λ c κs. search needs) encrypt-checked-requires (λ c. search needs) (λ c. search needs) returns encrypt-requires (λ c κs. search needs)
     (λ c. search needs) (λ c. search needs) returns-2)

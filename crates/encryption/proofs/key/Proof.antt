@@ -2,7 +2,6 @@
 -- Assumes nothing.
 use mathlib.Core.Path.{_≡_, sym, ap, _∙_}
 use Prim.Native.Nat.{ℕ}
-use native.Mathlib.Omega.{arith}
 use borrow.Author.Needs.{needs}
 use lib.ListN.{length, replicate}
 use Rattle.calls.specs.Outcome.{outcome, accepted}
@@ -12,14 +11,21 @@ use Rattle.sets.proofs.Lengths.{secret-other}
 use Rattle.scheme.specs.Encryption.{secretSeed, publicKey}
 use Rattle.sets.specs.Derived.{isEncryption}
 use Rattle.scheme.specs.Answers.{keyChecks, keyDraws, encryptionKeyAnswer, encryptionPublicLeft, encryptionSecretLeft, encryptionKeyWork}
-use Rattle.scheme.proofs.Answers.{key-passed}
+use Rattle.scheme.proofs.Answers.{own-listed, own-bytes, key-passed}
 use Rattle.scheme_checks.proofs.Laws.{two-refused, two-drawn}
 use Rattle.encryption.proofs.key.Statement.{statement}
 use Rattle.encryption.proofs.key.Tie as tie
 
 -- the entry of the function, from the point where the checks decided
 abbrev start-of : tie.After-enum-told → tie.Start
-start-of c = c .before .before .before .before .before .before .before
+start-of c = c .before .before .before .before .before .before .before .before
+
+-- the set's record, from there
+abbrev known : tie.After-enum-told → tie.After-parameters-of
+known c = c .before .before .before
+
+key-checked-requires : tie.Need-key-checked-requires
+key-checked-requires c κs = c .parameters-of .ensures
 
 -- the checks passed
 passed : (c : tie.After-enum-told) → let args = start-of c .args in
@@ -31,7 +37,7 @@ passed c = sym (c .before .before .key-checked .ensures) ∙ ap outcome (c .enum
 returns : tie.Need-returns
 unfolding isEncryption encryptionKeyAnswer encryptionPublicLeft encryptionSecretLeft encryptionKeyWork
 returns c =
-    let args = c .before .before .before .before .before .before .before .args in
+    let args = c .before .before .before .before .before .before .before .before .args in
     let p = setOf (args .set) in
     two-refused (keyDraws p (args .seed .now)) (args .work .now)
     (publicKey p (args .seed .now)) (args .public .now)
@@ -43,7 +49,14 @@ keygen-requires c κs =
     let checked = c .before .before .before in
     let set = start-of checked .args .set in
     let fit = key-passed isEncryption set _ _ _ _ (passed checked) in
-    (fit .0 .0, omega (arith, fit .0 .1), fit .1, fit .2, fit .3 ∙ secret-other set (encryption-only set (fit .0 .2)), fit .4)
+    rw (known checked .parameters-of .ensures) (
+      own-bytes isEncryption set (fit .0),
+      own-listed isEncryption set (fit .0),
+      fit .1,
+      fit .2,
+      fit .3 ∙ secret-other set (encryption-only set (fit .0 .2)),
+      fit .4,
+    )
 
 returns-2 : tie.Need-returns-2
 unfolding encryptionKeyAnswer encryptionPublicLeft encryptionSecretLeft encryptionKeyWork
@@ -54,13 +67,14 @@ returns-2 c =
     let args = start-of checked .args in
     let p = setOf (args .set) in
     let made = after .keygen in
+    let left = rw (known checked .parameters-of .ensures) at (made .ensures) in
     two-drawn (keyDraws p (args .seed .now)) (args .work .now)
     (publicKey p (args .seed .now)) (args .public .now)
     (secretSeed p (args .seed .now)) (args .secret .now)
-    (passed checked) (made .ensures) (c .before .before .clear .ensures ∙ ap (λ (n : ℕ). replicate n 0) (made .kept .1 .1 .1 .1 .0))
+    (passed checked) left (c .before .before .clear .ensures ∙ ap (λ (n : ℕ). replicate n 0) (made .kept .1 .1 .1 .1 .0))
 
 pub key-spec : {M : Type 1} → statement M
 key-spec =
     tie.close
-    (tie.spec (λ c κs. search needs) (λ c. search needs) (λ c. search needs) returns keygen-requires (λ c κs. search needs)
+    (tie.spec (λ c κs. search needs) key-checked-requires (λ c. search needs) (λ c. search needs) returns keygen-requires (λ c κs. search needs)
     (λ c. search needs) (λ c. search needs) (λ c. search needs) returns-2)

@@ -2,7 +2,6 @@
 -- Assumes nothing.
 use mathlib.Core.Path.{_≡_, sym, ap, _∙_}
 use Prim.Native.Nat.{ℕ}
-use native.Mathlib.Omega.{arith}
 use borrow.Author.Needs.{needs}
 use lib.ListN.{length, replicate}
 use Rattle.calls.specs.Outcome.{outcome, accepted}
@@ -11,14 +10,21 @@ use Rattle.sets.proofs.Lengths.{secret-exchange, ciphertext-exchange}
 use Rattle.scheme.specs.Exchange.{decapsulated}
 use Rattle.sets.specs.Derived.{isExchange}
 use Rattle.scheme.specs.Answers.{decryptChecks, decapsulateDraws, decapsulateAnswer, decapsulatedLeft, decapsulateWork}
-use Rattle.scheme.proofs.Answers.{decrypt-passed}
+use Rattle.scheme.proofs.Answers.{own-listed, own-bytes, decrypt-passed}
 use Rattle.scheme_checks.proofs.Laws.{one-refused, one-drawn}
 use Rattle.exchange.proofs.decapsulate.Statement.{statement}
 use Rattle.exchange.proofs.decapsulate.Tie as tie
 
 -- the entry of the function, from the point where the checks decided
 abbrev start-of : tie.After-enum-told → tie.Start
-start-of c = c .before .before .before .before .before .before .before
+start-of c = c .before .before .before .before .before .before .before .before
+
+-- the set's record, from there
+abbrev known : tie.After-enum-told → tie.After-parameters-of
+known c = c .before .before .before
+
+decrypt-checked-requires : tie.Need-decrypt-checked-requires
+decrypt-checked-requires c κs = c .parameters-of .ensures
 
 -- the checks passed
 passed : (c : tie.After-enum-told) → let args = start-of c .args in
@@ -30,7 +36,7 @@ passed c = sym (c .before .before .decrypt-checked .ensures) ∙ ap outcome (c .
 returns : tie.Need-returns
 unfolding isExchange decapsulateAnswer decapsulatedLeft decapsulateWork
 returns c =
-    let args = c .before .before .before .before .before .before .before .args in
+    let args = c .before .before .before .before .before .before .before .before .args in
     let p = setOf (args .set) in
     one-refused (decapsulateDraws p (args .secret .now)) (args .work .now)
     (decapsulated p (args .secret .now) (args .ciphertext .now)) (args .shared .now)
@@ -41,7 +47,14 @@ decapsulated-key-requires c κs =
     let checked = c .before .before in
     let set = start-of checked .args .set in
     let fit = decrypt-passed isExchange set _ _ _ _ (passed checked) in
-    (fit .0 .0, omega (arith, fit .0 .1), fit .1 ∙ secret-exchange set (fit .0 .2), fit .2 ∙ ciphertext-exchange set (fit .0 .2), fit .3, fit .4)
+    rw (known checked .parameters-of .ensures) (
+      own-bytes isExchange set (fit .0),
+      own-listed isExchange set (fit .0),
+      fit .1 ∙ secret-exchange set (fit .0 .2),
+      fit .2 ∙ ciphertext-exchange set (fit .0 .2),
+      fit .3,
+      fit .4,
+    )
 
 returns-2 : tie.Need-returns-2
 unfolding decapsulateAnswer decapsulatedLeft decapsulateWork
@@ -51,12 +64,13 @@ returns-2 c =
     let args = start-of checked .args in
     let p = setOf (args .set) in
     let made = after .decapsulated-key in
+    let left = rw (known checked .parameters-of .ensures) at (made .ensures) in
     one-drawn (decapsulateDraws p (args .secret .now)) (args .work .now)
     (decapsulated p (args .secret .now) (args .ciphertext .now)) (args .shared .now)
-    (passed checked) (made .ensures) (c .before .before .clear .ensures ∙ ap (λ (n : ℕ). replicate n 0) (made .kept .1 .1 .1 .1 .0))
+    (passed checked) left (c .before .before .clear .ensures ∙ ap (λ (n : ℕ). replicate n 0) (made .kept .1 .1 .1 .1 .0))
 
 pub decapsulate-spec : {M : Type 1} → statement M
 decapsulate-spec =
     tie.close
-    (tie.spec (λ c κs. search needs) (λ c. search needs) (λ c. search needs) returns decapsulated-key-requires (λ c κs. search needs)
+    (tie.spec (λ c κs. search needs) decrypt-checked-requires (λ c. search needs) (λ c. search needs) returns decapsulated-key-requires (λ c κs. search needs)
     (λ c. search needs) (λ c. search needs) returns-2)

@@ -70,9 +70,6 @@ returns c =
 returns-2 : tie.Need-returns-2
 returns-2 c = multipliers-none _ _ _ _ (shape (c .before)) (c .if1 .taken)
 
-parameters-of-requires : tie.Need-parameters-of-requires
-parameters-of-requires c κs = shape (c .before) .most
-
 multiplier-count-requires : tie.Need-multiplier-count-requires
 multiplier-count-requires c κs = ruled c .0
 
@@ -128,7 +125,7 @@ multipliers-spec =
     (λ c. search needs)
     returns
     returns-2
-    parameters-of-requires
+    (λ c κs. search needs)
     multiplier-count-requires
     returns-3
     returns-4

@@ -27,9 +27,6 @@ returns c =
     let told = ap outcome (c .enum-told2 .given .1) in
     refused-both _ _ told (shape-refused _ _ (sym (c .before .before .check-shape .ensures) ∙ told) _)
 
-parameters-of-requires : tie.Need-parameters-of-requires
-parameters-of-requires c κs = shape c .most
-
 look-requires : tie.Need-look-requires
 look-requires c κs =
     (modulus-some _ _ (c .parameters-of .ensures) (shape (c .before) .most), shape (c .before) .few)
@@ -63,7 +60,7 @@ residues-spec =
     (λ c. search needs)
     (λ c. search needs)
     returns
-    parameters-of-requires
+    (λ c κs. search needs)
     look-requires
     (λ c. search needs)
     (λ c. search needs)

@@ -2,7 +2,6 @@
 -- Assumes nothing.
 use mathlib.Core.Path.{sym, _∙_}
 use native.Mathlib.Omega.{arith}
-use Rattle.sets.specs.Table.{setOf}
 use Rattle.ntt_products.proofs.Vectors.{sentInverse-placed}
 use Rattle.sets.proofs.Transforms.{third-size}
 use Rattle.ntt_middle.proofs.Middle.{reversed-placed, middle-correlated}
@@ -13,7 +12,7 @@ use Rattle.ntt_middle.proofs.correlate_stored.Tie as tie
 store-requires : tie.Need-store-requires
 store-requires c κs =
     let pre = c .before .before .before .before .before .before .before .before .pre in
-    let third = third-size (setOf (c .before .before .before .before .before .before .before .before .args .set)) in
+    let third = third-size (c .before .before .before .before .before .before .before .before .args .p) in
     (pre .0, pre .4, pre .1 .whole ∙ sym third, rw third (pre .1 .room), pre .3)
 
 load-reversed-requires : tie.Need-load-reversed-requires
@@ -26,7 +25,7 @@ load-reversed-requires c κs =
       pre .1 .results,
       pre .1 .room,
       third-size
-          (setOf (at-store .before .before .before .before .before .before .before .before .before .args .set)),
+          (at-store .before .before .before .before .before .before .before .before .before .args .p),
       pre .5,
     )
 
@@ -40,11 +39,11 @@ correlate-requires c κs =
       pre .0,
       at-load-tables .load-tables .ensures,
       rw (c .before .before .before .before .before .load-reversed .ensures)
-          (reversed-placed (args .set) (pre .0) (args .a .now) (args .x .now) (pre .5)
-          (omega (arith, pre .1 .fit, pre .1 .results, pre .1 .room, third-size (setOf (args .set)))) (pre .2)),
+          (reversed-placed (args .p) (pre .0) (args .a .now) (args .x .now) (pre .5)
+          (omega (arith, pre .1 .fit, pre .1 .results, pre .1 .room, third-size (args .p))) (pre .2)),
       pre .1 .some,
-      rw (at-store .store .ensures) (sentInverse-placed (args .set) (pre .0) 3 (args .b .now)),
-      omega (arith, pre .1 .fit, pre .1 .room, third-size (setOf (args .set))),
+      rw (at-store .store .ensures) (sentInverse-placed (args .p) (pre .0) 3 (args .b .now)),
+      omega (arith, pre .1 .fit, pre .1 .room, third-size (args .p)),
     )
 
 copy-out-requires : tie.Need-copy-out-requires
@@ -60,7 +59,7 @@ copy-out-requires c κs =
       pre .1 .fit,
       pre .1 .some,
       pre .1 .room,
-      third-size (setOf (at-slice .before .before .before .args .set)),
+      third-size (at-slice .before .before .before .args .p),
       pre .5,
     )
 
@@ -72,9 +71,9 @@ returns c =
     let start = at-store .before .before .before .before .before .before .before .before .before in
     let args = start .args in
     let pre = start .pre in
-    let third = third-size (setOf (args .set)) in
+    let third = third-size (args .p) in
     c .before .before .copy-out .ensures
-    ∙ middle-correlated (args .set) (pre .0) (args .a .now) (args .b .now) _ (pre .1 .some) (pre .1 .fit) (rw third (pre .1 .room)) (args .x .now) _
+    ∙ middle-correlated (args .p) (pre .0) (args .a .now) (args .b .now) _ (pre .1 .some) (pre .1 .fit) (rw third (pre .1 .room)) (args .x .now) _
     (omega (arith, pre .1 .fit, pre .1 .results, pre .1 .room, third, pre .5))
     (rw (at-correlate .before .before .before .before .before .before .load-reversed .ensures, at-store .store .ensures) at (at-correlate .correlate .ensures))
 

@@ -2,7 +2,6 @@
 -- Assumes nothing.
 use mathlib.Core.Path.{ap, _∙_}
 use native.Mathlib.Omega.{arith}
-use Rattle.sets.specs.Table.{setOf}
 use Rattle.ntt_products.specs.Stored.{sentInverse}
 use Rattle.calls.proofs.Parts.{front}
 use Rattle.ntt_products.proofs.Front.{front-placed}
@@ -18,7 +17,7 @@ send-first-inverse-requires c κs =
       pre .0,
       at-load-inverse-tables .load-inverse-tables .ensures,
       rw (c .before .before .before .before .copy-in .ensures)
-          (front-placed (start .args .set) 3 (start .args .work .now) (start .args .b .now) (pre .2) (pre .3) (pre .4)),
+          (front-placed (start .args .p) 3 (start .args .work .now) (start .args .b .now) (pre .2) (pre .3) (pre .4)),
     )
 
 returns : tie.Need-returns
@@ -27,7 +26,7 @@ returns c =
     let start = at-copy-in .before .before .before .before .before .before .before .before .before in
     c .before .before .send-first-inverse .ensures
     ∙ rw (at-copy-in .copy-in .ensures)
-    (ap (sentInverse (setOf (start .args .set)) 3) (front (start .args .work .now) (start .args .b .now) (omega (arith, start .pre .2, start .pre .3))))
+    (ap (sentInverse (start .args .p) 3) (front (start .args .work .now) (start .args .b .now) (omega (arith, start .pre .2, start .pre .3))))
 
 pub store-spec : {M : Type 1} → statement M
 store-spec =

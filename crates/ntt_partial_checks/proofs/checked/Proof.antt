@@ -4,7 +4,6 @@ use mathlib.Core.Path.{_≡_, sym, ap, _∙_}
 use Prim.Native.Nat.{_*_, _≤_}
 use native.Mathlib.Omega.{arith}
 use borrow.Author.Tests.{lt-ltb, le-ltb, eq-eqb, ne-eqb}
-use borrow.Author.Needs.{needs}
 use lib.ListN.{length}
 use Rattle.sets.specs.declared.Parameters.{Parameters}
 use Rattle.sets.specs.Table.{lastSet, setOf}
@@ -44,21 +43,21 @@ returns-4 c =
 
 size-number-requires : tie.Need-size-number-requires
 size-number-requires c κs =
-    let args = c .before .before .before .before .before .before .args in
-    rw (c .parameters-of .ensures) (rules (args .set) (omega arith))
+    let start = c .before .before .before .before .before in
+    rw (start .pre) (rules (start .args .set) (omega arith))
 
 -- the number of the transform
 number : (c : tie.After-size-number)
-    → let args = c .before .before .before .before .before .before .before .args in
+    → let args = c .before .before .before .before .before .before .args in
     c .size-number .result ≡ sizeNumber (setOf (args .set)) (args .rows * args .row)
 number c =
-    let args = c .before .before .before .before .before .before .before .args in
-    c .size-number .ensures ∙ ap (λ (p : Parameters). sizeNumber p (args .rows * args .row)) (c .before .parameters-of .ensures)
+    let start = c .before .before .before .before .before .before in
+    c .size-number .ensures ∙ ap (λ (p : Parameters). sizeNumber p (start .args .rows * start .args .row)) (start .pre)
 
 returns-5 : tie.Need-returns-5
 unfolding partialAnswer
 returns-5 c =
-    let args = c .before .before .before .before .before .before .before .before .args in
+    let args = c .before .before .before .before .before .before .before .args in
     rw (
       le-ltb (args .set) 1 (omega arith),
       le-ltb lastSet (args .set) (omega arith),
@@ -68,11 +67,11 @@ returns-5 c =
     )
 
 -- the size is small
-size : (c : tie.Else5) → let args = c .before .before .before .before .before .before .before .before .args in args .rows * args .row ≤ 3328
+size : (c : tie.Else5) → let args = c .before .before .before .before .before .before .before .args in args .rows * args .row ≤ 3328
 size c =
-    let args = c .before .before .before .before .before .before .before .before .args in
+    let args = c .before .before .before .before .before .before .before .args in
     rw (← size-found (setOf (args .set)) (args .rows * args .row) (λ e. c .if5 .left (number (c .before) ∙ e)))
-    (size-most (args .set) (omega arith) (sizeNumber (setOf (args .set)) (args .rows * args .row)))
+    (size-most (setOf (args .set)) (rules (args .set) (omega arith)) (sizeNumber (setOf (args .set)) (args .rows * args .row)))
 
 mul-size : tie.Need-mul-size
 mul-size c = record { fits = omega (arith, size c) }
@@ -80,7 +79,7 @@ mul-size c = record { fits = omega (arith, size c) }
 returns-6 : tie.Need-returns-6
 unfolding partialAnswer
 returns-6 c =
-    let args = c .before .before .before .before .before .before .before .before .before .args in
+    let args = c .before .before .before .before .before .before .before .before .args in
     rw (
       le-ltb (args .set) 1 (omega arith),
       le-ltb lastSet (args .set) (omega arith),
@@ -94,7 +93,7 @@ returns-7 : tie.Need-returns-7
 unfolding partialAnswer
 returns-7 c =
     let sized = c .before .before .before in
-    let args = sized .before .before .before .before .before .before .before .args in
+    let args = sized .before .before .before .before .before .before .args in
     rw (
       le-ltb (args .set) 1 (omega arith),
       le-ltb lastSet (args .set) (omega arith),
@@ -112,7 +111,8 @@ returns-8 : tie.Need-returns-8
 unfolding partialAnswer
 returns-8 c =
     let sized = c .before .before .before .before in
-    let args = sized .before .before .before .before .before .before .before .args in
+    let start = sized .before .before .before .before .before .before in
+    let args = start .args in
     rw (
       le-ltb (args .set) 1 (omega arith),
       le-ltb lastSet (args .set) (omega arith),
@@ -122,7 +122,7 @@ returns-8 c =
           (λ e. c .before .before .before .if5 .left (number sized ∙ e)),
       eq-eqb (length (args .input .now)) (args .rows * args .row) (c .before .before .if6 .left),
       eq-eqb (args .places) (args .rows * args .row) (c .before .if7 .left),
-      ← c .before .before .before .before .before .parameters-of .ensures,
+      ← start .pre,
     )
     (c .one-checked .ensures)
 
@@ -134,7 +134,6 @@ checked-spec =
     returns-2
     returns-3
     returns-4
-    (λ c κs. search needs)
     size-number-requires
     returns-5
     mul-size

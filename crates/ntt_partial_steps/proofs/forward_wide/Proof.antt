@@ -11,14 +11,14 @@ use Rattle.ntt_partial_steps.proofs.forward_wide.Tie as tie
 part-tables-end : tie.Need-part-tables-end
 part-tables-end c =
     let start = c .before .before .before .before in
-    omega (arith, c .before .table-length .ensures, table-most (start .args .set) (start .pre .1) (start .args .i))
+    omega (arith, c .before .table-length .ensures, table-most (start .args .p) (start .pre .0) (start .args .i))
 
 forward-with-tables-requires : tie.Need-forward-with-tables-requires
 forward-with-tables-requires c κs =
     let room = c .before .before .table-length in
     let start = c .before .before .before .before .before in
-    let fits = table-most (start .args .set) (start .pre .1) (start .args .i) in
-    (start .pre .0, start .pre .1, start .pre .2, start .pre .3, array-front 3605 (room .result) (omega (arith, room .ensures, fits)) ∙ room .ensures)
+    let fits = table-most (start .args .p) (start .pre .0) (start .args .i) in
+    (start .pre .0, start .pre .1, start .pre .2, array-front 3605 (room .result) (omega (arith, room .ensures, fits)) ∙ room .ensures)
 
 pub forward-wide-spec : {M : Type 1} → statement M
 forward-wide-spec =

@@ -5,7 +5,6 @@ use Prim.Native.Nat.{_*_, _-_}
 use native.Mathlib.Omega.{arith}
 use lib.ListN.{take}
 use Rattle.calls.specs.Region.{over}
-use Rattle.sets.specs.Table.{setOf}
 use Rattle.ntt_products.specs.Stored.{sent}
 use Rattle.ntt_partial_steps.proofs.Rows.{wide-copied, wide-placed}
 use borrow.Author.Needs.{needs}
@@ -25,8 +24,8 @@ send-first-requires : tie.Need-send-first-requires
 send-first-requires c κs =
     let filled = c .before .before .before .before .before .before .before .before in
     let start = filled .before .before .before .before .before .before in
-    let placed = wide-placed (start .pre .2) (start .args .out .now) (start .pre .3) in
-    (start .pre .1, c .before .before .before .before .load-tables .ensures, rw (copied filled) placed)
+    let placed = wide-placed (start .pre .1) (start .args .out .now) (start .pre .2) in
+    (start .pre .0, c .before .before .before .before .load-tables .ensures, rw (copied filled) placed)
 
 returns : tie.Need-returns
 returns c =
@@ -34,7 +33,7 @@ returns c =
     let filled = made .before .before .before .before .before .before .before .before .before in
     let start = filled .before .before .before .before .before .before in
     made .send-first .ensures
-    ∙ ap (sent (setOf (start .args .set)) (start .args .i)) (rw (copied filled) (wide-copied (start .pre .2) (start .args .out .now) (start .pre .3)))
+    ∙ ap (sent (start .args .p) (start .args .i)) (rw (copied filled) (wide-copied (start .pre .1) (start .args .out .now) (start .pre .2)))
 
 pub forward-with-tables-spec : {M : Type 1} → statement M
 forward-with-tables-spec =

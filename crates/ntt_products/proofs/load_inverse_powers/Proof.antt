@@ -8,7 +8,7 @@ use Rattle.ntt_products.proofs.load_inverse_powers.Tie as tie
 returns : tie.Need-returns
 returns c =
     let start = c .before .before .before .before .before .before .before .before .before in
-    inverted-powers (start .args .set) (start .pre .0) (start .args .i) (c .before .before .before .before .before .before .load-powers .ensures)
+    inverted-powers (start .args .p) (start .pre .0) (start .args .i) (c .before .before .before .before .before .before .load-powers .ensures)
     (c .before .before .invert-powers .ensures)
 
 pub load-inverse-powers-spec : {M : Type 1} → statement M

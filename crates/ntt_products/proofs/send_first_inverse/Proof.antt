@@ -1,6 +1,6 @@
 -- `ntt_products::send_first_inverse` meets its contract: the tables are those of the inverse of the root.
 -- Assumes nothing.
-use Rattle.sets.proofs.Rules.{rules}
+use Rattle.sets.proofs.Rules.{listed-rules}
 use Rattle.ntt_products.specs.Stored.{sentInverse}
 use borrow.Author.Needs.{needs}
 use Rattle.ntt_products.proofs.send_first_inverse.Statement.{statement}
@@ -8,15 +8,14 @@ use Rattle.ntt_products.proofs.send_first_inverse.Tie as tie
 
 send-front-requires : tie.Need-send-front-requires
 send-front-requires c κs =
-    let start = c .before .before .before .before in
-    rw (c .before .parameters-of .ensures) (rules (start .args .set) (start .pre .0), start .pre .1 .lent, start .pre .2)
+    let start = c .before .before .before in
+    (listed-rules (start .args .p) (start .pre .0), start .pre .1 .lent, start .pre .2)
 
 returns : tie.Need-returns
 unfolding sentInverse
 returns c =
-    let known = c .before .before .before .before in
-    let start = known .before .before .before in
-    (rw (known .parameters-of .ensures) at (c .before .before .send-front .ensures)) _ (start .pre .1 .root)
+    let start = c .before .before .before .before .before .before in
+    c .before .before .send-front .ensures _ (start .pre .1 .root)
 
 pub send-first-inverse-spec : {M : Type 1} → statement M
-send-first-inverse-spec = tie.close (tie.spec (λ c κs. search needs) send-front-requires (λ c. search needs) returns)
+send-first-inverse-spec = tie.close (tie.spec send-front-requires (λ c. search needs) returns)

@@ -31,7 +31,8 @@ rounded-bit-requires c κs =
     let start = c .before .before .before .before .before .before .before in
     let kept = rules (start .args .set) (start .pre .0) in (
       start .pre .0,
-      rw (c .opened-place .ensures, ← start .pre .1)
+      start .pre .1,
+      rw (c .opened-place .ensures)
           (opened-below (start .args .p) (start .args .c1 .now) (start .args .c2 .now) (start .args .s .now) (c .before .before .loop .j)
           (rw (start .pre .1) (omega (arith, kept .prime .above)))),
     )
@@ -41,7 +42,7 @@ loop-again c =
     let start = c .before .before .before .before .before .before .before .before in
     filled-more 0 (c .before .before .before .loop .inv) (omega arith) (omega arith)
     (c .rounded-bit .ensures
-    ∙ rw (c .before .opened-place .ensures, ← start .pre .1)
+    ∙ rw (c .before .opened-place .ensures)
     (sym (reading-at (start .args .set) (start .args .p) (start .args .c1 .now) (start .args .c2 .now) (start .args .s .now)
     (c .before .before .before .loop .j) (omega arith))))
 

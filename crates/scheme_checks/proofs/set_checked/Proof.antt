@@ -1,10 +1,10 @@
 -- `scheme_checks::set_checked` meets its contract: each test of the code is one of the definition.
 -- Assumes nothing.
 use native.Mathlib.Omega.{arith}
-use mathlib.Core.Path.{sym, _∙_}
-use borrow.Author.Needs.{needs}
+use mathlib.Core.Path.{sym, ap, _∙_}
 use borrow.Author.Tests.{eq-eqb, ne-eqb}
 use Rattle.calls.specs.Outcome.{accepted}
+use Rattle.sets.specs.declared.Parameters.{Parameters}
 use Rattle.sets.specs.Derived.{isOf}
 use Rattle.scheme.proofs.Answers.{set-low, set-high, set-other, set-own}
 use Rattle.scheme_checks.proofs.set_checked.Statement.{statement}
@@ -18,15 +18,17 @@ returns-2 c = sym (set-high (isOf (c .before .before .args .number)) (c .before 
 
 returns-3 : tie.Need-returns-3
 returns-3 c =
-    let args = c .before .before .before .before .args in
-    let other = ne-eqb _ _ (λ e. c .if3 .taken (c .before .scheme-of .ensures ∙ e)) in
+    let start = c .before .before .before .before in
+    let args = start .args in
+    let other = ne-eqb _ _ (λ e. c .if3 .taken (ap (λ (p : Parameters). p .scheme) (start .pre) ∙ e)) in
     sym (set-other (isOf (args .number)) (args .set) accepted (omega arith) (omega arith) other)
 
 returns-4 : tie.Need-returns-4
 returns-4 c =
-    let args = c .before .before .before .before .args in
-    let same = eq-eqb _ _ (sym (c .before .scheme-of .ensures) ∙ c .if3 .left) in
+    let start = c .before .before .before .before in
+    let args = start .args in
+    let same = eq-eqb _ _ (sym (ap (λ (p : Parameters). p .scheme) (start .pre)) ∙ c .if3 .left) in
     sym (set-own (isOf (args .number)) (args .set) accepted (omega arith) (omega arith) same)
 
 pub set-checked-spec : {M : Type 1} → statement M
-set-checked-spec = tie.close (tie.spec returns returns-2 (λ c κs. search needs) returns-3 returns-4)
+set-checked-spec = tie.close (tie.spec returns returns-2 returns-3 returns-4)

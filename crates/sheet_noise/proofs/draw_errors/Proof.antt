@@ -7,27 +7,25 @@ use native.Mathlib.Omega.{arith}
 use lib.ListN.{length, take, drop}
 use Rattle.maths.specs.Integer.{residue}
 use Rattle.sets.specs.declared.Parameters.{Parameters}
-use Rattle.sets.specs.Table.{setOf}
-use Rattle.sets.specs.Rules.{Rules, ByteRules}
+use Rattle.sets.specs.Rules.{Rules}
 use Rattle.byte_source.specs.Source.{State, stateAt}
 use Rattle.samplers.specs.Blocks.{onward}
-use Rattle.sets.specs.Derived.{errorCount}
 use Rattle.samplers.specs.Seeded.{errorsDrawn, secretState}
 use Rattle.samplers.proofs.Laws.{secretState-small}
 use Rattle.scheme.specs.Encryption.{errors}
-use Rattle.sets.proofs.Rules.{rules, byteRules, rules-of, byteRules-of}
+use Rattle.sets.proofs.Rules.{listed-rules}
 use Rattle.calls.proofs.Parts.{front-length, back-length}
 use Rattle.sheet_noise.proofs.Held.{work-room, secret-state, never-refused, errors-written}
 use borrow.Author.Needs.{needs}
 use Rattle.sheet_noise.proofs.draw_errors.Statement.{statement}
 use Rattle.sheet_noise.proofs.draw_errors.Tie as tie
 
--- the start, the set's parameters, the count of errors, and where the secret is drawn
-abbrev start : tie.After-parameters-of → tie.Start
-start c = c .before .before .before
+-- the start, from before and after the count of errors, that count, and where the secret is drawn
+abbrev lent : tie.After-slice-known → tie.Start
+lent c = c .before .before
 
-abbrev known : tie.After-error-count → tie.After-parameters-of
-known c = c .before
+abbrev start : tie.After-error-count → tie.Start
+start c = lent (c .before)
 
 abbrev counted : tie.After-residues-from → tie.After-error-count
 counted c = c .before .before
@@ -35,42 +33,40 @@ counted c = c .before .before
 abbrev drawn : tie.After-counter → tie.After-residues-from
 drawn c = c .before .before .before .before
 
--- the rules of the set
-kept : (c : tie.After-parameters-of) → Rules (c .parameters-of .result)
-kept c = rules-of (start c .args .set) (start c .pre .1) _ (c .parameters-of .ensures)
+-- the set's numbers and their rules
+abbrev p : tie.After-error-count → Parameters
+p c = start c .args .p
 
-bytes : (c : tie.After-parameters-of) → ByteRules (c .parameters-of .result)
-bytes c = byteRules-of (start c .args .set) (start c .pre .1) _ (c .parameters-of .ensures) (start c .pre .0)
+kept : (c : tie.After-error-count) → Rules (p c)
+kept c = listed-rules (p c) (start c .pre .1)
 
 -- the work slice before, and after the draw of the secret
 abbrev work : tie.After-error-count → List ℕ
-work c = start (known c) .args .work .now
+work c = start c .args .work .now
 
 abbrev work-after : tie.After-residues-from → List ℕ
 work-after c =
     take 0 (work (counted c))
-    ++ (c .residues-from .last .1 .1 .1 .1 .0 ++ drop (known (counted c) .parameters-of .result .d3 - 0) (drop 0 (work (counted c))))
+    ++ (c .residues-from .last .1 .1 .1 .1 .0 ++ drop (p (counted c) .d3 - 0) (drop 0 (work (counted c))))
 
 error-count-requires : tie.Need-error-count-requires
-error-count-requires c κs = kept c
+error-count-requires c κs = listed-rules (lent c .args .p) (lent c .pre .1)
 
 -- the secret and the errors fit
-secret-fits : (c : tie.After-error-count) → known c .parameters-of .result .d3 ≤ length (work c)
+secret-fits : (c : tie.After-error-count) → p c .d3 ≤ length (work c)
 secret-fits c =
-    let begun = start (known c) in
-    let size = ap (λ (p : Parameters). p .d3) (known c .parameters-of .ensures) in
-    omega (arith, work-room (begun .args .set) (begun .pre .0) (begun .pre .1) .secret-in, size, begun .pre .4)
+    let begun = start c in
+    omega (arith, work-room (begun .args .p) (begun .pre .0) (begun .pre .1) .secret-in, begun .pre .4)
 
 errors-fit : (c : tie.After-error-count) → c .error-count .result ≤ length (work c)
 errors-fit c =
-    let begun = start (known c) in
-    let count = ap errorCount (known c .parameters-of .ensures) in
-    omega (arith, work-room (begun .args .set) (begun .pre .0) (begun .pre .1) .all-in, count, c .error-count .ensures .0, begun .pre .4)
+    let begun = start c in
+    omega (arith, work-room (begun .args .p) (begun .pre .0) (begun .pre .1) .all-in, c .error-count .ensures .0, begun .pre .4)
 
 -- the part of the secret
 secret-part : (c : tie.After-error-count)
-    → length (take (known c .parameters-of .result .d3 - 0) (drop 0 (work c))) ≡ known c .parameters-of .result .d3
-secret-part c = front-length (work c) (known c .parameters-of .result .d3) (secret-fits c)
+    → length (take (p c .d3 - 0) (drop 0 (work c))) ≡ p c .d3
+secret-part c = front-length (work c) (p c .d3) (secret-fits c)
 
 part-residues-from-end : tie.Need-part-residues-from-end
 part-residues-from-end c = omega (arith, secret-fits c)
@@ -78,35 +74,35 @@ part-residues-from-end c = omega (arith, secret-fits c)
 residues-from-requires : tie.Need-residues-from-requires
 residues-from-requires c κs =
     let at = c .before in
-    let all = kept (known at) in (
-      (all, omega (arith, start (known at) .pre .2), bytes (known at) .some-bytpcs, bytes (known at) .most-bytpcs),
+    let all = kept at in (
+      (all, omega (arith, start at .pre .2), start at .pre .0 .some-bytpcs, start at .pre .0 .most-bytpcs),
       (omega (arith, secret-part at, all .some-n, all .some-d, all .some-k, all .holds3), omega (arith, secret-part at, all .most-d3)),
     )
 
 returns : tie.Need-returns
 returns c =
     let at = c .before .before .before .before in
-    let begun = start (known (counted at)) in
+    let begun = start (counted at) in
     let secret = begun .args .secret .now in
     let answer = sym (ap (onward secret) (c .enum-told .given .1)) ∙ at .residues-from .ensures .0 in
     absurd
-    (never-refused (setOf (begun .args .set)) _ (known (counted at) .parameters-of .ensures) secret _ (secret-part (counted at))
-    (bytes (known (counted at)) .some-bytpcs) _ answer (begun .pre .3))
+    (never-refused (begun .args .p) secret _ (secret-part (counted at))
+    (begun .pre .0 .some-bytpcs) _ answer (begun .pre .3))
 
 -- the state that the draw of the secret leaves
-state-is : (c : tie.After-counter) → let begun = start (known (counted (drawn c))) in
-    stateAt (begun .args .secret .now) (c .counter .given .0 .0) ≡ secretState (setOf (begun .args .set)) (begun .args .secret .now)
+state-is : (c : tie.After-counter) → let begun = start (counted (drawn c)) in
+    stateAt (begun .args .secret .now) (c .counter .given .0 .0) ≡ secretState (begun .args .p) (begun .args .secret .now)
 state-is c =
     let at = drawn c in
-    let begun = start (known (counted at)) in
+    let begun = start (counted at) in
     let secret = begun .args .secret .now in
-    secret-state (setOf (begun .args .set)) _ (known (counted at) .parameters-of .ensures) secret _ (secret-part (counted at)) _
+    secret-state (begun .args .p) secret _ (secret-part (counted at)) _
     (sym (ap (onward secret) (c .counter .given .1)) ∙ at .residues-from .ensures .0)
 
 -- the work slice keeps its length
 kept-length : (c : tie.After-residues-from) → length (work-after c) ≡ length (work (counted c))
 kept-length c =
-    back-length (work (counted c)) (c .residues-from .last .1 .1 .1 .1 .0) (known (counted c) .parameters-of .result .d3)
+    back-length (work (counted c)) (c .residues-from .last .1 .1 .1 .1 .0) (p (counted c) .d3)
     (c .residues-from .kept .1 .1 .1 .1 .0 ∙ secret-part (counted c)) (secret-fits (counted c))
 
 part-errors-from-end : tie.Need-part-errors-from-end
@@ -120,12 +116,11 @@ errors-size c = front-length (work-after c) (counted c .error-count .result) (om
 errors-from-requires : tie.Need-errors-from-requires
 errors-from-requires c κs =
     let at = drawn (c .before .before) in
-    let begun = start (known (counted at)) in
-    let set = begun .args .set in
-    let small = secretState-small (setOf set) (rules set (begun .pre .1)) (byteRules set (begun .pre .0) (begun .pre .1)) (begun .args .secret .now) in
+    let begun = start (counted at) in
+    let small = secretState-small (p (counted at)) (kept (counted at)) (begun .pre .0) (begun .args .secret .now) in
     let counter = ap (λ (s : State). s .counter) (state-is (c .before .before)) in (
-      (kept (known (counted at)), bytes (known (counted at)), omega (arith, begun .pre .2), errors-size at ∙ counted at .error-count .ensures .0),
-      omega (arith, small, counter, bytes (known (counted at)) .most-error-bytes),
+      (kept (counted at), begun .pre .0, omega (arith, begun .pre .2), errors-size at ∙ counted at .error-count .ensures .0),
+      omega (arith, small, counter, begun .pre .0 .most-error-bytes),
     )
 
 returns-2 : tie.Need-returns-2
@@ -133,23 +128,18 @@ unfolding errors
 returns-2 c =
     let found = c .before .before .before .before .before in
     let at = drawn found in
-    let begun = start (known (counted at)) in
-    let p = setOf (begun .args .set) in
-    let r = known (counted at) .parameters-of .result in
-    let e = known (counted at) .parameters-of .ensures in
+    let begun = start (counted at) in
+    let o = begun .args .p in
     let made = c .before .before .errors-from in
     let secret = begun .args .secret .now in
-    errors-written p secret (work-after at) (made .last .1 .1 .1 .0) (counted at .error-count .result)
-    (made .kept .1 .1 .1 .0 ∙ errors-size at ∙ counted at .error-count .ensures .0 ∙ ap errorCount e)
-    (made .ensures
-    ∙ ap (λ (s : State). map (residue (r .q)) (errorsDrawn r s)) (state-is found)
-    ∙ ap (λ (o : Parameters). map (residue (o .q)) (errorsDrawn o (secretState p secret))) e)
+    errors-written o secret (work-after at) (made .last .1 .1 .1 .0) (counted at .error-count .result)
+    (made .kept .1 .1 .1 .0 ∙ errors-size at ∙ counted at .error-count .ensures .0)
+    (made .ensures ∙ ap (λ (s : State). map (residue (o .q)) (errorsDrawn o s)) (state-is found))
 
 pub draw-errors-spec : {M : Type 1} → statement M
 draw-errors-spec =
     tie.close
     (tie.spec
-    (λ c κs. search needs)
     error-count-requires
     (λ c. search needs)
     (λ c. search needs)

@@ -6,8 +6,9 @@ use native.Mathlib.Omega.{arith}
 use lib.ListN.{length}
 use Rattle.scheme.specs.Answers.{workLength}
 use Rattle.calls.proofs.Parts.{part-length, front-length}
-use Rattle.sets.proofs.Rules.{rules-of}
-use Rattle.sheet_rows.proofs.Sets.{sheet-encryption, sheet-set, work-most}
+use Rattle.sets.specs.declared.Parameters.{Parameters}
+use Rattle.sets.proofs.Rules.{rules-of, byteRules-of}
+use Rattle.sheet_rows.proofs.Sets.{sheet-set, work-most}
 use Rattle.sheet_rows.proofs.RowLaws.{input-long, bench-lengths, bench-filled, seeded-filled}
 use borrow.Author.Needs.{needs}
 use Rattle.sheet_rows.proofs.fill.Statement.{statement}
@@ -21,27 +22,28 @@ abbrev other-start : tie.Else1 → tie.Start
 other-start c = c .before .before .before .before .before
 
 abbrev start-of : tie.After-work-length → tie.Start
-start-of c = other-start (c .before .before)
+start-of c = other-start (c .before)
 
 abbrev sized : tie.After-seeded-rows-arg7 → tie.After-work-length
 sized c = c .before .before .before .before .before .before .before
 
 -- the input of an encryption set
 long : (c : tie.After-work-length) → length (start-of c .args .input .now) ≡ 97
-long c = start-of c .pre .1 ∙ input-long (start-of c .args .set) (c .before .before .if1 .left)
+long c = start-of c .pre .1 ∙ input-long (start-of c .args .set) (c .before .if1 .left)
 
 -- the work slice has room
 room : (c : tie.After-work-length) → c .work-length .result ≤ length (start-of c .args .work .now)
 room c =
     let start = start-of c in
-    omega (arith, work-most (start .args .set) (start .pre .0), c .work-length .ensures, ap workLength (c .before .parameters-of .ensures), start .pre .5)
+    omega (arith, work-most (start .args .set) (start .pre .0), c .work-length .ensures, ap workLength (start .pre .6), start .pre .5)
 
 bench-rows-requires : tie.Need-bench-rows-requires
 bench-rows-requires c κs =
     let chosen = c .before .before .before in
     let pre = bench-start chosen .pre in
     let sizes = bench-lengths (bench-start chosen .args .set) (chosen .if1 .taken) in
-    (pre .1 ∙ sizes .0, pre .2 ∙ sizes .1, pre .3 ∙ sizes .1, pre .4 ∙ sizes .1)
+    let two = ap (λ (p : Parameters). p .d) (pre .6) ∙ sizes .1 in
+    (pre .1 ∙ sizes .0, pre .2 ∙ two, pre .3 ∙ two, pre .4 ∙ two)
 
 returns : tie.Need-returns
 returns c =
@@ -52,13 +54,10 @@ returns c =
     bench-filled (args .set) (args .input .now) _ (args .noise .now) _ (args .sent .now) _ (args .read .now) _ (chosen .if1 .taken) (start .pre .1)
     (made .0) (made .1 .0) (made .1 .1 .0) (made .1 .1 .1)
 
-parameters-of-requires : tie.Need-parameters-of-requires
-parameters-of-requires c κs = sheet-set (other-start c .args .set) (other-start c .pre .0)
-
 work-length-requires : tie.Need-work-length-requires
 work-length-requires c κs =
-    let start = other-start (c .before) in
-    rules-of (start .args .set) (sheet-set (start .args .set) (start .pre .0)) _ (c .parameters-of .ensures)
+    let start = other-start c in
+    rules-of (start .args .set) (sheet-set (start .args .set) (start .pre .0)) _ (start .pre .6)
 
 part-seeded-rows-end : tie.Need-part-seeded-rows-end
 part-seeded-rows-end c = omega (arith, long c)
@@ -79,25 +78,26 @@ seeded-rows-requires c κs =
     let pre = start .pre in
     let input = start .args .input .now in
     let size = long at in
-    let work =
-    front-length (start .args .work .now) (at .work-length .result) (room at) ∙ at .work-length .ensures
-    ∙ ap workLength (at .before .parameters-of .ensures) in (
-      sheet-encryption (start .args .set) (pre .0) (at .before .before .if1 .left),
+    let set = start .args .set in
+    let low = sheet-set set (pre .0) in (
+      byteRules-of set low _ (pre .6) (at .before .if1 .left),
+      record { set = set; is-set = low; listed = pre .6 },
       part-length input 1 33 32 refl (rw size (omega arith)),
       part-length input 65 97 32 refl (rw size (omega arith)),
       part-length input 33 65 32 refl (rw size (omega arith)),
       pre .2,
       pre .3,
       pre .4,
-      work,
+      front-length (start .args .work .now) (at .work-length .result) (room at) ∙ at .work-length .ensures,
     )
 
 returns-2 : tie.Need-returns-2
 returns-2 c =
     let made = c .before .before .before .before .before .before .before in
     let at = sized (made .before) in
-    let args = start-of at .args in
-    seeded-filled (args .set) (args .input .now) _ _ _ _ (at .before .before .if1 .left) (made .seeded-rows .ensures .0) (made .seeded-rows .ensures .1)
+    let start = start-of at in
+    seeded-filled (start .args .set) (start .args .p) (start .args .input .now) _ _ _ _ (at .before .if1 .left) (start .pre .6)
+    (made .seeded-rows .ensures .0) (made .seeded-rows .ensures .1)
 
 pub fill-spec : {M : Type 1} → statement M
 fill-spec =
@@ -108,7 +108,6 @@ fill-spec =
     (λ c. search needs)
     (λ c. search needs)
     returns
-    parameters-of-requires
     work-length-requires
     (λ c. search needs)
     (λ c. search needs)

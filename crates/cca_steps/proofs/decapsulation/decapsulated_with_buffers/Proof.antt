@@ -11,7 +11,6 @@ use lib.ListN.{drop}
 use Rattle.calls.specs.Outcome.{outcome}
 use Rattle.calls.proofs.Outcome.{refused-call}
 use Rattle.calls.proofs.Parts.{rest-whole}
-use Rattle.sets.specs.Table.{setOf}
 use Rattle.scheme.specs.Encryption.{keyNumbers}
 use Rattle.scheme.specs.Answers.{onlyResidues}
 use Rattle.cca_steps.proofs.Steps.{numbers-refuse, draw-refuses, decapsulated-made}
@@ -33,22 +32,27 @@ read-of c = c .before .before .before .before .before .before
 
 -- what that check tells
 told : (c : tie.After-key-below) → let args = args-of c .args in
-    onlyResidues (setOf (args .set) .q) (keyNumbers (setOf (args .set)) (drop 32 (args .secret .now))) ≡ c .key-below .result
+    onlyResidues (args .p .q) (keyNumbers (args .p) (drop 32 (args .secret .now))) ≡ c .key-below .result
 told c =
     let args = args-of c .args in
-    let below : List ℕ → _ = λ (ls : List ℕ). onlyResidues (setOf (args .set) .q) (keyNumbers (setOf (args .set)) ls) in
+    let below : List ℕ → _ = λ (ls : List ℕ). onlyResidues (args .p .q) (keyNumbers (args .p) ls) in
     sym (c .key-below .ensures ∙ ap below (rest-whole (args .secret .now) 32))
 
 -- all numbers are below q
 passed : (c : tie.Else1) → let args = args-of (checked-of c) .args in
-    onlyResidues (setOf (args .set) .q) (keyNumbers (setOf (args .set)) (drop 32 (args .secret .now))) ≡ true
+    onlyResidues (args .p .q) (keyNumbers (args .p) (drop 32 (args .secret .now))) ≡ true
 passed c = told (checked-of c) ∙ not-false _ (c .if1 .left)
 
 returns : tie.Need-returns
 returns c =
     let point = c .before .before .before in
     let args = args-of point .args in
-    refused-call _ _ (numbers-refuse (setOf (args .set)) (args .secret .now) (told point ∙ not-true _ (c .if1 .taken)))
+    refused-call _ _ (numbers-refuse (args .p) (args .secret .now) (told point ∙ not-true _ (c .if1 .taken)))
+
+decrypt-requires : tie.Need-decrypt-requires
+decrypt-requires c κs =
+    let start = args-of (checked-of (c .before .before .before)) in
+    (start .pre .0, start .pre .1, search needs, search needs, search needs, search needs, search needs)
 
 returns-2 : tie.Need-returns-2
 returns-2 c =
@@ -56,8 +60,14 @@ returns-2 c =
     let below = read .before .before .before .before in
     let args = args-of (checked-of below) .args in
     let refusal = ap outcome (c .enum-told2 .given .1) in
-    let left = refused-call _ _ (draw-refuses (setOf (args .set)) (args .secret .now) (passed below) (sym (read .decrypt .ensures .0) ∙ refusal)) in
+    let left = refused-call _ _ (draw-refuses (args .p) (args .secret .now) (passed below) (sym (read .decrypt .ensures .0) ∙ refusal)) in
     (refusal ∙ left .0, left .1)
+
+key-of-message-requires : tie.Need-key-of-message-requires
+key-of-message-requires c κs =
+    let read = read-of (c .before .before .before .before .before .before .before) in
+    let start = args-of (checked-of (read .before .before .before .before)) in
+    (start .pre .0, start .pre .1, search needs, search needs, search needs, search needs, search needs, search needs, search needs)
 
 returns-3 : tie.Need-returns-3
 returns-3 c =
@@ -68,12 +78,12 @@ returns-3 c =
     let args = args-of (checked-of below) .args in
     let message = read .decrypt .ensures in
     let key = shared .key-of-message .ensures in
-    decapsulated-made (setOf (args .set)) (args .secret .now) (passed below) (args .ciphertext .now) _ (args .message .now) _ _ (args .shared .now) _
+    decapsulated-made (args .p) (args .secret .now) (passed below) (args .ciphertext .now) _ (args .message .now) _ _ (args .shared .now) _
     (sym (message .0) ∙ ap outcome (point .enum-told .given .1)) (message .1 .1) (message .1 .0) (key .0) (key .1)
 
 pub decapsulated-with-buffers-spec : {M : Type 1} → statement M
 decapsulated-with-buffers-spec =
     tie.close
-    (tie.spec (λ c. search needs) (λ c. search needs) (λ c. search needs) (λ c κs. search needs) (λ c. search needs) returns (λ c κs. search needs)
-    (λ c. search needs) (λ c. search needs) (λ c. search needs) (λ c. search needs) (λ c. search needs) returns-2 (λ c κs. search needs)
+    (tie.spec (λ c. search needs) (λ c. search needs) (λ c. search needs) (λ c κs. search needs) (λ c. search needs) returns decrypt-requires
+    (λ c. search needs) (λ c. search needs) (λ c. search needs) (λ c. search needs) (λ c. search needs) returns-2 key-of-message-requires
     (λ c. search needs) (λ c. search needs) (λ c. search needs) (λ c. search needs) (λ c. search needs) returns-3)

@@ -8,21 +8,19 @@ use Rattle.cca_steps.proofs.decapsulation.expand_seed.Tie as tie
 returns : tie.Need-returns
 returns c =
     let first = c .before .before .before .before .before .before .before .before in
-    let start = first .before .before .before .before .before .before in
+    let start = first .before .before .before .before .before in
+    let p = start .args .p in
     let seed = start .args .seed .now in
-    let parameters = first .before .before .parameters-of .ensures in
     let halves = first .source-bytes .ensures .1 in
-    let inner = inner-made seed _ _ parameters (start .pre .2) halves in (
-      halves-made seed _ _ parameters (start .pre .2) halves,
-      seed-made seed _ _ _ parameters (start .pre .3) inner
-          (c .before .before .source-bytes2 .ensures .1),
+    let inner = inner-made p seed _ _ (start .pre .1) halves in (
+      halves-made p seed _ _ (start .pre .1) halves,
+      seed-made p seed _ _ _ (start .pre .2) inner (c .before .before .source-bytes2 .ensures .1),
     )
 
 pub expand-seed-spec : {M : Type 1} → statement M
 expand-seed-spec =
     tie.close
     (tie.spec
-    (λ c κs. search needs)
     (λ c κs. search needs)
     (λ c. search needs)
     (λ c. search needs)

@@ -7,7 +7,6 @@ use lib.ListN.{drop}
 use Rattle.calls.specs.Outcome.{outcome}
 use Rattle.calls.proofs.Outcome.{leaves-refused}
 use Rattle.calls.proofs.Parts.{rest-whole}
-use Rattle.sets.specs.Table.{setOf}
 use Rattle.scheme.specs.Answers.{encryptDraws}
 use Rattle.cca_steps.proofs.Steps.{shared-again}
 use Rattle.cca_steps.proofs.decapsulation.key_of_message.Statement.{statement}
@@ -23,10 +22,15 @@ args-of c = start-of (c .before .before .before .before .before .before)
 abbrev again-of : tie.After-slice-known5 → tie.After-encapsulate
 again-of c = c .before .before .before .before
 
+encapsulate-requires : tie.Need-encapsulate-requires
+encapsulate-requires c κs =
+    let start = start-of (c .before .before .before .before .before) in
+    (start .pre .0, start .pre .1, search needs, search needs, search needs, search needs)
+
 -- what encapsulating again answers
 answered : (c : tie.After-encapsulate)
-    → outcome (c .encapsulate .result) ≡ encryptDraws (setOf (args-of c .args .set)) (drop 32 (args-of c .args .secret .now))
-answered c = c .encapsulate .ensures .0 ∙ ap (encryptDraws (setOf (args-of c .args .set))) (rest-whole (args-of c .args .secret .now) 32)
+    → outcome (c .encapsulate .result) ≡ encryptDraws (args-of c .args .p) (drop 32 (args-of c .args .secret .now))
+answered c = c .encapsulate .ensures .0 ∙ ap (encryptDraws (args-of c .args .p)) (rest-whole (args-of c .args .secret .now) 32)
 
 returns : tie.Need-returns
 returns c =
@@ -38,7 +42,7 @@ returns-2 c =
     let told = c .before .before .before .before .before .before .before in
     let made = again-of (told .before .before) in
     let args = args-of made .args in
-    let p = setOf (args .set) in
+    let p = args .p in
     let decided = sym (answered made) ∙ ap outcome (told .enum-told .given .1) in
     let picked = c .before .before .before .before in
     let shared = shared-again p (drop 32 (args .secret .now)) _ (args .message .now) (drop 32 (args .expanded .now)) (args .ciphertext .now) _
@@ -49,6 +53,6 @@ returns-2 c =
 pub key-of-message-spec : {M : Type 1} → statement M
 key-of-message-spec =
     tie.close
-    (tie.spec (λ c. search needs) (λ c. search needs) (λ c. search needs) (λ c κs. search needs) (λ c. search needs) (λ c. search needs)
+    (tie.spec (λ c. search needs) (λ c. search needs) (λ c. search needs) encapsulate-requires (λ c. search needs) (λ c. search needs)
     (λ c. search needs) (λ c. search needs) returns (λ c κs. search needs) (λ c κs. search needs) (λ c κs. search needs) (λ c. search needs)
     (λ c. search needs) (λ c. search needs) returns-2)

@@ -7,7 +7,6 @@ use borrow.Author.Needs.{needs}
 use lib.ListN.{length}
 use Rattle.calls.specs.Outcome.{outcome}
 use Rattle.calls.proofs.Parts.{front-length, front-refused}
-use Rattle.sets.specs.Table.{setOf}
 use Rattle.cca_steps.proofs.Steps.{ciphertext-made}
 use Rattle.cca_steps.proofs.encapsulation.encapsulate_digest.Statement.{statement}
 use Rattle.cca_steps.proofs.encapsulation.encapsulate_digest.Tie as tie
@@ -18,6 +17,11 @@ start-of c = c .before .before .before .before .before .before .before .before .
 
 abbrev encrypt-of : tie.After-slice-known4 → tie.After-encrypt
 encrypt-of c = c .before .before .before .before
+
+encrypt-requires : tie.Need-encrypt-requires
+encrypt-requires c κs =
+    let start = c .before .before .before .before .before .before .before .before in
+    (start .pre .0, start .pre .1, search needs, search needs, search needs, search needs, search needs)
 
 returns : tie.Need-returns
 returns c =
@@ -42,7 +46,7 @@ returns-2 c =
     let decided = sym (made .encrypt .ensures .0) ∙ ap outcome (told .enum-told .given .1) in
     let old = args .ciphertext .now in
     let size : length old ≡ length old - 32 + 32 = omega (arith, start .pre .6) in
-    let whole = ciphertext-made (setOf (args .set)) (args .public .now) (args .message .now) (args .digest .now) old _ _ (length old - 32) decided
+    let whole = ciphertext-made (args .p) (args .public .now) (args .message .now) (args .digest .now) old _ _ (length old - 32) decided
     (start .pre .5) (start .pre .4) size (front-size made) (made .encrypt .ensures .1) (c .before .before .copy-at .ensures) in
     (ap outcome (told .enum-told .given .1) ∙ sym decided, whole)
 
@@ -50,5 +54,5 @@ pub encapsulate-digest-spec : {M : Type 1} → statement M
 encapsulate-digest-spec =
     tie.close
     (tie.spec (λ c. search needs) (λ c. search needs) (λ c. search needs) (λ c. search needs) (λ c. search needs) (λ c. search needs)
-    (λ c. search needs) (λ c κs. search needs) (λ c. search needs) (λ c. search needs) (λ c. search needs) (λ c. search needs) returns
+    (λ c. search needs) encrypt-requires (λ c. search needs) (λ c. search needs) (λ c. search needs) (λ c. search needs) returns
     (λ c. search needs) (λ c. search needs) (λ c. search needs) (λ c κs. search needs) (λ c. search needs) (λ c. search needs) returns-2)

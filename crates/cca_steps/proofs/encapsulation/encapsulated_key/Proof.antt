@@ -4,7 +4,6 @@ use mathlib.Core.Path.{sym, ap, _∙_}
 use borrow.Author.Needs.{needs}
 use Rattle.calls.specs.Outcome.{outcome}
 use Rattle.calls.proofs.Outcome.{leaves-refused}
-use Rattle.sets.specs.Table.{setOf}
 use Rattle.cca_steps.proofs.Steps.{shared-made}
 use Rattle.cca_steps.proofs.encapsulation.encapsulated_key.Statement.{statement}
 use Rattle.cca_steps.proofs.encapsulation.encapsulated_key.Tie as tie
@@ -30,7 +29,7 @@ returns-2 c =
     let made = point .encapsulate .ensures in
     let decided = sym (made .0) ∙ ap outcome (told .enum-told .given .1) in
     let hashed = c .before .before .shared-key-of .ensures in
-    let p = setOf (args .set) in
+    let p = args .p in
     let shared = shared-made p (args .public .now) (args .message .now) _ (args .ciphertext .now) _ (args .shared .now) decided (made .1) hashed in
     (made .0, (made .1, shared))
 

@@ -5,7 +5,6 @@ use borrow.Author.Needs.{needs}
 use lib.ListN.{take}
 use Rattle.calls.specs.Outcome.{outcome}
 use Rattle.calls.proofs.Outcome.{leaves-refused}
-use Rattle.sets.specs.Table.{setOf}
 use Rattle.scheme.specs.Exchange.{innerSeed}
 use Rattle.scheme.specs.Answers.{keyDraws}
 use Rattle.cca_steps.proofs.Steps.{inner-made, public-made, secret-made}
@@ -14,7 +13,7 @@ use Rattle.cca_steps.proofs.keygen.keygen_with_buffers.Tie as tie
 
 -- points of the function: its entry, the expanded seed, the inner keys
 abbrev start-of : tie.After-source-bytes → tie.Start
-start-of c = c .before .before .before .before .before .before .before .before .before
+start-of c = c .before .before .before .before .before .before .before .before
 
 abbrev expanded-of : tie.After-keygen → tie.After-source-bytes
 expanded-of c = c .before .before .before .before .before .before .before .before
@@ -23,14 +22,14 @@ abbrev keygen-of : tie.After-slice-known9 → tie.After-keygen
 keygen-of c = c .before .before .before .before .before .before
 
 -- the inner seed is the first half of what the seed expands to
-inner : (c : tie.After-source-bytes) → take 32 (c .source-bytes .last .1 .1 .1 .0) ≡ innerSeed (setOf (start-of c .args .set)) (start-of c .args .seed .now)
-inner c = inner-made (start-of c .args .seed .now) _ _ (c .before .before .parameters-of .ensures) (start-of c .pre .6) (c .source-bytes .ensures .1)
+inner : (c : tie.After-source-bytes) → take 32 (c .source-bytes .last .1 .1 .1 .0) ≡ innerSeed (start-of c .args .p) (start-of c .args .seed .now)
+inner c = inner-made (start-of c .args .p) (start-of c .args .seed .now) _ _ (start-of c .pre .6) (c .source-bytes .ensures .1)
 
 returns : tie.Need-returns
 returns c =
     let made = keygen-of (c .before .before) in
     let start = start-of (expanded-of made) in
-    let p = setOf (start .args .set) in
+    let p = start .args .p in
     let seed = inner (expanded-of made) in
     let decided = sym (made .keygen .ensures .0 ∙ ap (keyDraws p) seed) ∙ ap outcome (c .enum-told2 .given .1) in
     let public = public-made p (start .args .seed .now) _ _ (start .args .public .now) seed (made .keygen .ensures .1 .0) in
@@ -41,7 +40,7 @@ returns-2 c =
     let told = c .before .before .before .before .before in
     let made = keygen-of (told .before .before) in
     let start = start-of (expanded-of made) in
-    let p = setOf (start .args .set) in
+    let p = start .args .p in
     let seed = inner (expanded-of made) in
     let decided = sym (made .keygen .ensures .0 ∙ ap (keyDraws p) seed) ∙ ap outcome (told .enum-told .given .1) in
     let public = public-made p (start .args .seed .now) _ _ (start .args .public .now) seed (made .keygen .ensures .1 .0) in
@@ -52,6 +51,6 @@ returns-2 c =
 pub keygen-with-buffers-spec : {M : Type 1} → statement M
 keygen-with-buffers-spec =
     tie.close
-    (tie.spec (λ c κs. search needs) (λ c κs. search needs) (λ c. search needs) (λ c. search needs) (λ c. search needs) (λ c κs. search needs)
+    (tie.spec (λ c κs. search needs) (λ c. search needs) (λ c. search needs) (λ c. search needs) (λ c κs. search needs)
     (λ c. search needs) (λ c. search needs) (λ c. search needs) (λ c. search needs) (λ c. search needs) (λ c. search needs) returns
     (λ c κs. search needs) (λ c. search needs) (λ c. search needs) (λ c. search needs) (λ c. search needs) (λ c. search needs) returns-2)

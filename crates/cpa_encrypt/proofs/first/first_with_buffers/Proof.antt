@@ -7,20 +7,31 @@ use borrow.Author.Tests.{not-false}
 use lib.ListN.{replicate}
 use Rattle.calls.specs.Outcome.{outcome, accepted}
 use Rattle.calls.proofs.Outcome.{refuse-accepted, refused-call, accepted-call}
-use Rattle.sets.proofs.Rules.{rules-of, byteRules-of}
+use Rattle.sets.proofs.Rules.{listed-rules}
 use Rattle.cpa_encrypt.proofs.Adding.{total-digits, first-packed}
 use borrow.Author.Needs.{needs}
 use Rattle.cpa_encrypt.proofs.first.first_with_buffers.Statement.{statement}
 use Rattle.cpa_encrypt.proofs.first.first_with_buffers.Tie as tie
 
+-- points of the function, each from a later one: the entry, the tables, the zeros, and the products added up
+abbrev start : tie.After-load-tables → tie.Start
+start c = c .before .before .before .before .before .before .before .before .before
+
+abbrev loaded : tie.After-clear → tie.After-load-tables
+loaded c = c .before .before .before .before
+
+abbrev begun : tie.After-sum-products → tie.Start
+begun c = start (loaded (c .before .before .before .before .before .before .before))
+
+abbrev summed : tie.After-enum-told → tie.After-sum-products
+summed c = c .before .before .before .before .before .before .before .before
+
 sum-products-requires : tie.Need-sum-products-requires
 sum-products-requires c κs =
-    let at-clear = c .before .before .before .before .before .before in
-    let at-load-tables = at-clear .before .before .before .before in
-    let at-parameters-of = at-load-tables .before .before in
-    let at-start = at-parameters-of .before .before .before .before .before .before .before .before in
-    let pre = at-start .pre in
-    (pre .0, pre .1, pre .2, pre .3, at-load-tables .load-tables .ensures, at-clear .clear .ensures ∙ ap (λ (n : ℕ). replicate n 0) (pre .6), pre .7, pre .8)
+    let zeros = c .before .before .before .before .before .before in
+    let tables = loaded zeros in
+    let pre = start tables .pre in
+    (pre .0, pre .1, pre .2, pre .3, tables .load-tables .ensures, zeros .clear .ensures ∙ ap (λ (n : ℕ). replicate n 0) (pre .6), pre .7, pre .8)
 
 returns : tie.Need-returns
 returns c =
@@ -29,44 +40,32 @@ returns c =
 
 pack-into-requires : tie.Need-pack-into-requires
 pack-into-requires c κs =
-    let at-total2 = c .before .before .before .before .before .before .before .before .before in
-    let added = at-total2 .before in
-    let cleared = added .before .before .before .before .before .before .before in
-    let known = cleared .before .before .before .before .before .before in
-    let start = known .before .before .before .before .before .before .before .before in
-    let set = start .args .set in
-    let low = start .pre .1 in
-    let e = known .parameters-of .ensures in
-    let summed = added .sum-products in
-    let done = ap outcome (c .before .before .enum-told .given .1) in
-    let kept = rules-of set low _ e in
-    let bytes = byteRules-of set low _ e (start .pre .0) in (
-      record { least = omega (arith, bytes .kept-byte); most = omega (arith, kept .width-most) },
-      total-digits set low (start .args .seed .now) (start .args .multipliers .now) _ e (summed .last .1 .1 .1 .1 .0) (summed .ensures .1 done),
+    let told = c .before .before in
+    let added = summed told .sum-products in
+    let from = begun (summed told) in
+    let p = from .args .p in
+    let done = ap outcome (told .enum-told .given .1) in (
+      record { least = omega (arith, from .pre .0 .kept-byte); most = omega (arith, listed-rules p (from .pre .1) .width-most) },
+      total-digits p (from .pre .1) (from .args .seed .now) (from .args .multipliers .now) (added .last .1 .1 .1 .1 .0) (added .ensures .1 done),
     )
 
 returns-2 : tie.Need-returns-2
 returns-2 c =
-    let at-enum-told = c .before .before .before .before .before in
-    let added = at-enum-told .before .before .before .before .before .before .before .before in
-    let cleared = added .before .before .before .before .before .before .before in
-    let known = cleared .before .before .before .before .before .before in
-    let start = known .before .before .before .before .before .before .before .before in
-    let pre = start .pre in
-    let e = known .parameters-of .ensures in
-    let summed = added .sum-products .ensures in
-    let done = ap outcome (at-enum-told .enum-told .given .1) in
-    let decided = sym (summed .0) ∙ done in
+    let told = c .before .before .before .before .before in
+    let from = begun (summed told) in
+    let pre = from .pre in
+    let added = summed told .sum-products .ensures in
+    let done = ap outcome (told .enum-told .given .1) in
+    let decided = sym (added .0) ∙ done in
     let taken = not-false _ (refuse-accepted _ 5 0 accepted decided .0) in
     accepted-call _ _ decided
     (c .before .before .pack-into .ensures
-    ∙ first-packed (start .args .set) (pre .1) (start .args .seed .now) (start .args .multipliers .now) _ e _ _ (pre .3) taken (pre .4) (summed .1 done))
+    ∙ first-packed (from .args .p) (pre .1) (from .args .seed .now) (from .args .multipliers .now) _ _ (pre .3) taken (pre .4) (added .1 done))
 
 pub first-with-buffers-spec : {M : Type 1} → statement M
 first-with-buffers-spec =
     tie.close
     (tie.spec
-    (λ c κs. search needs)
     (λ c κs. search needs)
     (λ c κs. search needs)
     sum-products-requires

@@ -6,11 +6,9 @@ use native.Mathlib.Omega.{arith}
 use lib.ListN.{length}
 use Rattle.calls.specs.Outcome.{refused}
 use Rattle.calls.proofs.Outcome.{accepted-refused}
-use Rattle.sets.specs.declared.Parameters.{Parameters}
-use Rattle.sets.specs.Table.{setOf}
 use Rattle.byte_source.specs.Source.{stateAt}
 use Rattle.samplers.specs.Blocks.{onward, refusedBy}
-use Rattle.sets.proofs.Rules.{rules, rules-of}
+use Rattle.sets.proofs.Rules.{listed-rules}
 use Rattle.ntt_products.proofs.Laws.{rules-odd}
 use Rattle.cpa_encrypt.proofs.Adding.{Adding, adding-none, adding-more, adding-addends, adding-all}
 use Rattle.cpa_encrypt.proofs.Adding.{PolynomialSent, polynomial-sent, polynomial-refused, counter-small}
@@ -19,24 +17,21 @@ use Rattle.cpa_encrypt.proofs.first.sum_products.Statement.{statement}
 use Rattle.cpa_encrypt.proofs.first.sum_products.Tie as tie
 
 abbrev Inv-loop : tie.InvT-loop
-Inv-loop set seed multipliers tables total₀ x₀ y₀ p k counter₀ i₀ total x y counter i =
-    Adding set seed multipliers (length total₀) total x y counter i
+Inv-loop p seed multipliers tables total₀ x₀ y₀ k counter₀ i₀ total x y counter i =
+    Adding p seed multipliers (length total₀) total x y counter i
 
 abbrev μ-loop : tie.MeasureT-loop
-μ-loop set seed multipliers tables total₀ x₀ y₀ p k counter₀ i₀ total x y counter i = p .t - i
+μ-loop p seed multipliers tables total₀ x₀ y₀ k counter₀ i₀ total x y counter i = p .t - i
 
--- the start, where a turn begins, the set's parameters, where the turn is tested, and where its two vectors are sent
-abbrev start : tie.After-parameters-of Inv-loop μ-loop → tie.Start Inv-loop μ-loop
+-- the start, where a turn begins, where the turn is tested, and where its two vectors are sent
+abbrev start : tie.After-negated-inverse Inv-loop μ-loop → tie.Start Inv-loop μ-loop
 start c = c .before .before .before .before .before .before .before
 
 abbrev turn : tie.Then1 Inv-loop μ-loop → tie.At-loop Inv-loop μ-loop
 turn c = c .before .before
 
-abbrev known : tie.Then1 Inv-loop μ-loop → tie.After-parameters-of Inv-loop μ-loop
-known c = turn c .before .before
-
 abbrev begun : tie.Then1 Inv-loop μ-loop → tie.Start Inv-loop μ-loop
-begun c = start (known c)
+begun c = start (turn c .before)
 
 abbrev test : tie.After-send-multipliers Inv-loop μ-loop → tie.Then1 Inv-loop μ-loop
 test c = c .before .before
@@ -51,14 +46,15 @@ abbrev told : tie.After-accumulate Inv-loop μ-loop → tie.After-drawn Inv-loop
 told c = c .before .before .before .before .before
 
 negated-inverse-requires : tie.Need-negated-inverse-requires Inv-loop μ-loop
-negated-inverse-requires c κs = rw (c .parameters-of .ensures) (rules-odd (setOf (start c .args .set)) (rules (start c .args .set) (start c .pre .1)))
+negated-inverse-requires c κs =
+    let from = c .before .before .before .before .before .before in rules-odd (from .args .p) (listed-rules (from .args .p) (from .pre .1))
 
 loop-holds : tie.Need-loop-holds Inv-loop μ-loop
-loop-holds c = let from = start (c .before) in adding-none (from .args .set) (from .pre .1) _ _ _ _ _ (from .pre .5) (from .pre .6) (from .pre .7)
+loop-holds c = let from = start c in adding-none (from .args .p) (from .pre .1) _ _ _ _ _ (from .pre .5) (from .pre .6) (from .pre .7)
 
 -- a turn is one of t
-turn-below : (c : tie.Then1 Inv-loop μ-loop) → turn c .loop .i < setOf (begun c .args .set) .t
-turn-below c = omega (arith, c .if1 .taken, ap (λ (r : Parameters). r .t) (known c .parameters-of .ensures))
+turn-below : (c : tie.Then1 Inv-loop μ-loop) → turn c .loop .i < begun c .args .p .t
+turn-below c = omega (arith, c .if1 .taken)
 
 send-multipliers-requires : tie.Need-send-multipliers-requires Inv-loop μ-loop
 send-multipliers-requires c κs =
@@ -71,7 +67,7 @@ send-drawn-requires c κs =
     let from = begun at in
     let pre = from .pre in
     let inv = turn at .loop .inv in
-    let small = counter-small (from .args .set) (pre .1) (from .args .seed .now) (from .args .multipliers .now) (pre .0) (inv .within) (inv .reached) in
+    let small = counter-small (from .args .p) (pre .1) (from .args .seed .now) (from .args .multipliers .now) (pre .0) (inv .within) (inv .reached) in
     (pre .0, pre .1, pre .4, pre .2, small, inv .y-size)
 
 returns : tie.Need-returns Inv-loop μ-loop
@@ -82,21 +78,21 @@ returns c =
     let this = turn tested .loop in
     let refusal = c .before .enum-told .given .1 in
     let none =
-    polynomial-refused (from .args .set) (from .pre .1) (from .args .seed .now) (from .args .multipliers .now) _ (this .i) (this .inv .reached) _ (from .pre .0)
+    polynomial-refused (from .args .p) (from .pre .1) (from .args .seed .now) (from .args .multipliers .now) _ (this .i) (this .inv .reached) _ (from .pre .0)
     (turn-below tested) (sym (at .send-drawn .ensures .0) ∙ ap (onward (from .args .seed .now)) refusal) in
     let answer = ap (λ (k : ℕ). refused k 0) (c .refusal-of .ensures ∙ ap refusedBy refusal) in
     (answer ∙ none, λ e. absurd (accepted-refused e refl))
 
 -- the polynomial of a turn is drawn and sent
 sent-here : (c : tie.After-drawn Inv-loop μ-loop) → let from = begun (test (first (second c))) in
-    PolynomialSent (from .args .set) (from .args .seed .now) (turn (test (first (second c))) .loop .i)
+    PolynomialSent (from .args .p) (from .args .seed .now) (turn (test (first (second c))) .loop .i)
     (stateAt (from .args .seed .now) (c .drawn .given .0 .0)) (second c .send-drawn .last .1 .1 .1 .1 .0)
 sent-here c =
     let tested = test (first (second c)) in
     let from = begun tested in
     let this = turn tested .loop in
     let draw = second c .send-drawn .ensures in
-    polynomial-sent (from .args .set) (from .pre .1) (from .args .seed .now) (from .args .multipliers .now) _ (this .i) (this .inv .reached) _ _
+    polynomial-sent (from .args .p) (from .pre .1) (from .args .seed .now) (from .args .multipliers .now) _ (this .i) (this .inv .reached) _ _
     (sym (draw .0) ∙ ap (onward (from .args .seed .now)) (c .drawn .given .1)) (draw .1)
 
 accumulate-requires : tie.Need-accumulate-requires Inv-loop μ-loop
@@ -104,14 +100,14 @@ accumulate-requires c κs =
     let at = c .before .before .before .before in
     let tested = test (first (second at)) in
     let from = begun tested in
-    adding-addends (from .args .set) (from .pre .1) (from .args .seed .now) (from .args .multipliers .now) _ (known tested .parameters-of .ensures)
-    (turn tested .before .negated-inverse .ensures) (turn tested .loop .inv) (first (second at) .send-multipliers .ensures) (sent-here at .y-is)
+    adding-addends (from .args .p) (from .pre .1) (from .args .seed .now) (from .args .multipliers .now) (turn tested .before .negated-inverse .ensures)
+    (turn tested .loop .inv) (first (second at) .send-multipliers .ensures) (sent-here at .y-is)
 
 add-i : tie.Need-add-i Inv-loop μ-loop
 add-i c =
     let tested = test (first (second (told (c .before .before)))) in
     let from = begun tested in
-    omega (arith, tested .if1 .taken, rules-of (from .args .set) (from .pre .1) _ (known tested .parameters-of .ensures) .most-t)
+    omega (arith, tested .if1 .taken, listed-rules (from .args .p) (from .pre .1) .most-t)
 
 loop-less : tie.Need-loop-less Inv-loop μ-loop
 loop-less c = omega (arith, test (first (second (told (c .before .before)))) .if1 .taken)
@@ -121,16 +117,14 @@ loop-again c =
     let at = told (c .before .before) in
     let tested = test (first (second at)) in
     let from = begun tested in
-    adding-more (from .args .set) (from .pre .1) (from .args .seed .now) (from .args .multipliers .now) _ _ _ _ (turn tested .loop .inv) (turn-below tested)
-    (sent-here at) (first (second at) .send-multipliers .ensures)
-    (rw (known tested .parameters-of .ensures) at (c .before .before .accumulate .ensures))
+    adding-more (from .args .p) (from .pre .1) (from .args .seed .now) (from .args .multipliers .now) _ _ _ _ (turn tested .loop .inv) (turn-below tested)
+    (sent-here at) (first (second at) .send-multipliers .ensures) (c .before .before .accumulate .ensures)
 
 returns-2 : tie.Need-returns-2 Inv-loop μ-loop
 returns-2 c =
     let at = c .before .before in
-    let from = start (at .before .before) in
-    adding-all (from .args .set) (from .pre .1) (from .args .seed .now) (from .args .multipliers .now) (at .loop .inv)
-    (omega (arith, c .if1 .left, ap (λ (r : Parameters). r .t) (at .before .before .parameters-of .ensures)))
+    let from = start (at .before) in
+    adding-all (from .args .p) (from .pre .1) (from .args .seed .now) (from .args .multipliers .now) (at .loop .inv) (omega (arith, c .if1 .left))
 
 pub sum-products-spec : {M : Type 1} → statement M
 sum-products-spec =
@@ -138,7 +132,6 @@ sum-products-spec =
     (tie.spec
     Inv-loop
     μ-loop
-    (λ c κs. search needs)
     negated-inverse-requires
     loop-holds
     send-multipliers-requires

@@ -24,7 +24,7 @@ returns c =
     let walked = c .before .before in
     let begun = start (summed walked) in
     walked .walk .ensures _ (summed walked .sum-rows .ensures)
-    ∙ second-sums (begun .args .set) (begun .pre .1) (begun .args .numbers .now) (begun .args .multipliers .now) (begun .pre .3) (begun .args .message .now)
+    ∙ second-sums (begun .args .p) (begun .pre .1) (begun .args .numbers .now) (begun .args .multipliers .now) (begun .pre .3) (begun .args .message .now)
 
 pub numbers-with-buffers-spec : {M : Type 1} → statement M
 numbers-with-buffers-spec =

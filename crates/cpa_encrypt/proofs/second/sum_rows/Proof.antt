@@ -36,7 +36,7 @@ recover-rows-requires c κs =
       begun .pre .0,
       begun .pre .1,
       tables .load-tables .ensures,
-      total-stored (begun .args .set) (begun .pre .1) (begun .args .numbers .now) (begun .args .multipliers .now) _ (sums .sum-stored .ensures),
+      total-stored (begun .args .p) (begun .pre .1) (begun .args .numbers .now) (begun .args .multipliers .now) _ (sums .sum-stored .ensures),
     )
 
 returns : tie.Need-returns

@@ -1,38 +1,34 @@
 -- After i turns the products of the first i polynomials are added up.
 -- Assumes nothing.
-use mathlib.Core.Path.{_≡_, ap}
+use mathlib.Core.Path.{_≡_, refl}
 use Prim.Native.Nat.{_+_, _-_, _*_, _<_}
 use native.Mathlib.Omega.{arith}
 use lib.ListN.{length, take, drop}
 use Rattle.calls.specs.Region.{vector}
-use Rattle.sets.specs.declared.Parameters.{Parameters}
-use Rattle.sets.specs.Table.{setOf}
-use Rattle.sets.proofs.Rules.{rules, rules-of}
+use Rattle.calls.proofs.Region.{region-part}
+use Rattle.sets.proofs.Rules.{listed-rules}
 use Rattle.ntt_products.proofs.Laws.{rules-odd}
-use Rattle.cpa_encrypt.proofs.Correlating.{Correlating, KeyRoom, key-room, key-part, correlating-none}
+use Rattle.cpa_encrypt.proofs.Correlating.{Correlating, KeyRoom, key-room, correlating-none}
 use Rattle.cpa_encrypt.proofs.Correlating.{correlating-more, correlating-addends, correlating-all}
 use borrow.Author.Needs.{needs}
 use Rattle.cpa_encrypt.proofs.second.sum_stored.Statement.{statement}
 use Rattle.cpa_encrypt.proofs.second.sum_stored.Tie as tie
 
 abbrev Inv-loop : tie.InvT-loop
-Inv-loop set numbers multipliers tables total₀ x₀ p k i₀ total x i = Correlating set numbers multipliers (length total₀) total x i
+Inv-loop p numbers multipliers tables total₀ x₀ k i₀ total x i = Correlating p numbers multipliers (length total₀) total x i
 
 abbrev μ-loop : tie.MeasureT-loop
-μ-loop set numbers multipliers tables total₀ x₀ p k i₀ total x i = p .t - i
+μ-loop p numbers multipliers tables total₀ x₀ k i₀ total x i = p .t - i
 
--- the start, where a turn begins, the set's parameters, where the turn is tested, and where its vector was sent
-abbrev start : tie.After-parameters-of Inv-loop μ-loop → tie.Start Inv-loop μ-loop
+-- the start, where a turn begins, where the turn is tested, and where its vector was sent
+abbrev start : tie.After-negated-inverse Inv-loop μ-loop → tie.Start Inv-loop μ-loop
 start c = c .before .before .before .before .before .before
 
 abbrev turn : tie.Then1 Inv-loop μ-loop → tie.At-loop Inv-loop μ-loop
 turn c = c .before .before
 
-abbrev known : tie.Then1 Inv-loop μ-loop → tie.After-parameters-of Inv-loop μ-loop
-known c = turn c .before .before
-
 abbrev begun : tie.Then1 Inv-loop μ-loop → tie.Start Inv-loop μ-loop
-begun c = start (known c)
+begun c = start (turn c .before)
 
 abbrev test : tie.After-send-multipliers Inv-loop μ-loop → tie.Then1 Inv-loop μ-loop
 test c = c .before .before
@@ -41,28 +37,28 @@ abbrev sent : tie.After-accumulate Inv-loop μ-loop → tie.After-send-multiplie
 sent c = c .before .before .before .before .before .before .before .before
 
 negated-inverse-requires : tie.Need-negated-inverse-requires Inv-loop μ-loop
-negated-inverse-requires c κs = rw (c .parameters-of .ensures) (rules-odd (setOf (start c .args .set)) (rules (start c .args .set) (start c .pre .0)))
+negated-inverse-requires c κs = let from = c .before .before .before .before .before in rules-odd (from .args .p) (listed-rules (from .args .p) (from .pre .0))
 
 loop-holds : tie.Need-loop-holds Inv-loop μ-loop
-loop-holds c = let from = start (c .before) in correlating-none (from .args .set) (from .pre .0) _ _ _ _ (from .pre .4) (from .pre .5)
+loop-holds c = let from = start c in correlating-none (from .args .p) (from .pre .0) _ _ _ _ (from .pre .4) (from .pre .5)
 
 -- a turn is one of t
-turn-below : (c : tie.Then1 Inv-loop μ-loop) → turn c .loop .i < setOf (begun c .args .set) .t
-turn-below c = omega (arith, c .if1 .taken, ap (λ (r : Parameters). r .t) (known c .parameters-of .ensures))
+turn-below : (c : tie.Then1 Inv-loop μ-loop) → turn c .loop .i < begun c .args .p .t
+turn-below c = omega (arith, c .if1 .taken)
 
 -- its b̂_i lies within all of them
-turn-room : (c : tie.Then1 Inv-loop μ-loop) → let set = begun c .args .set in
-    KeyRoom (known c .parameters-of .result) (turn c .loop .i) (setOf set .d1 * setOf set .t)
-turn-room c = key-room (begun c .args .set) (begun c .pre .0) _ (known c .parameters-of .ensures) (turn c .loop .i) (turn-below c)
+turn-room : (c : tie.Then1 Inv-loop μ-loop) → let p = begun c .args .p in KeyRoom p (turn c .loop .i) (p .d1 * p .t)
+turn-room c = key-room (begun c .args .p) (begun c .pre .0) (turn c .loop .i) (turn-below c)
 
 -- and is the part that is lent
-turn-part : (c : tie.Then1 Inv-loop μ-loop) → let p = known c .parameters-of .result in
+turn-part : (c : tie.Then1 Inv-loop μ-loop) → let d1 = begun c .args .p .d1 in
     let i = turn c .loop .i in
     let numbers = begun c .args .numbers .now in
-    take (p .d1 * i + p .d1 - p .d1 * i) (drop (p .d1 * i) numbers) ≡ vector (setOf (begun c .args .set) .d1) numbers i
+    take (d1 * i + d1 - d1 * i) (drop (d1 * i) numbers) ≡ vector d1 numbers i
 turn-part c =
-    key-part (begun c .args .set) (begun c .pre .0) (begun c .args .numbers .now) (begun c .args .multipliers .now) _ (known c .parameters-of .ensures)
-    (turn c .loop .i)
+    let d1 = begun c .args .p .d1 in
+    let i = turn c .loop .i in
+    region-part (begun c .args .numbers .now) (d1 * i) d1 (d1 * i + d1) refl
 
 send-multipliers-requires : tie.Need-send-multipliers-requires Inv-loop μ-loop
 send-multipliers-requires c κs =
@@ -93,15 +89,14 @@ accumulate-requires c κs =
     let at = c .before .before .before .before .before .before .before in
     let tested = test at in
     let from = begun tested in
-    correlating-addends (from .args .set) (from .pre .0) (from .args .numbers .now) (from .args .multipliers .now) _ (known tested .parameters-of .ensures)
-    (turn tested .before .negated-inverse .ensures) (from .pre .1) (turn tested .loop .inv) (turn-below tested) (at .send-multipliers .ensures)
-    (turn-part tested)
+    correlating-addends (from .args .p) (from .pre .0) (from .args .numbers .now) (from .args .multipliers .now) (turn tested .before .negated-inverse .ensures)
+    (from .pre .1) (turn tested .loop .inv) (turn-below tested) (at .send-multipliers .ensures) (turn-part tested)
 
 add-i : tie.Need-add-i Inv-loop μ-loop
 add-i c =
     let tested = test (sent (c .before .before)) in
     let from = begun tested in
-    omega (arith, tested .if1 .taken, rules-of (from .args .set) (from .pre .0) _ (known tested .parameters-of .ensures) .most-t)
+    omega (arith, tested .if1 .taken, listed-rules (from .args .p) (from .pre .0) .most-t)
 
 loop-less : tie.Need-loop-less Inv-loop μ-loop
 loop-less c = omega (arith, test (sent (c .before .before)) .if1 .taken)
@@ -111,15 +106,14 @@ loop-again c =
     let at = sent (c .before .before) in
     let tested = test at in
     let from = begun tested in
-    correlating-more (from .args .set) (from .pre .0) (from .args .numbers .now) (from .args .multipliers .now) _ (known tested .parameters-of .ensures) _ _ _
-    (turn tested .loop .inv) (turn-below tested) (at .send-multipliers .ensures) (turn-part tested) (c .before .before .accumulate .ensures)
+    correlating-more (from .args .p) (from .pre .0) (from .args .numbers .now) (from .args .multipliers .now) _ _ _ (turn tested .loop .inv)
+    (turn-below tested) (at .send-multipliers .ensures) (turn-part tested) (c .before .before .accumulate .ensures)
 
 returns : tie.Need-returns Inv-loop μ-loop
 returns c =
     let at = c .before .before in
-    let from = start (at .before .before) in
-    correlating-all (from .args .set) (from .pre .0) (from .args .numbers .now) (from .args .multipliers .now) (at .loop .inv)
-    (omega (arith, c .if1 .left, ap (λ (r : Parameters). r .t) (at .before .before .parameters-of .ensures)))
+    let from = start (at .before) in
+    correlating-all (from .args .p) (from .pre .0) (from .args .numbers .now) (from .args .multipliers .now) (at .loop .inv) (omega (arith, c .if1 .left))
 
 pub sum-stored-spec : {M : Type 1} → statement M
 sum-stored-spec =
@@ -127,7 +121,6 @@ sum-stored-spec =
     (tie.spec
     Inv-loop
     μ-loop
-    (λ c κs. search needs)
     negated-inverse-requires
     loop-holds
     send-multipliers-requires

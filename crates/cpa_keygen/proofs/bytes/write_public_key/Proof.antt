@@ -6,9 +6,8 @@ use native.Mathlib.Omega.{arith}
 use lib.ListN.{length, take, drop}
 use Rattle.calls.specs.Region.{region}
 use Rattle.calls.proofs.Region.{region-part}
-use Rattle.sets.specs.Table.{setOf}
 use Rattle.sets.specs.Derived.{packedBytes, publicKeyBytes}
-use Rattle.sets.proofs.Rules.{rules, byteRules}
+use Rattle.sets.proofs.Rules.{listed-rules}
 use Rattle.packing.specs.Digits.{pack}
 use Rattle.packing.proofs.Laws.{pack-length}
 use Rattle.cpa_keygen.specs.Held.{vectorsStart}
@@ -18,86 +17,91 @@ use borrow.Author.Needs.{needs}
 use Rattle.cpa_keygen.proofs.bytes.write_public_key.Statement.{statement}
 use Rattle.cpa_keygen.proofs.bytes.write_public_key.Tie as tie
 
+-- the points: the start, where the stored vectors begin, and where they end
+abbrev start : tie.After-vectors-start → tie.Start
+start c = c .before .before .before .before
+
+abbrev begins : tie.After-vectors-end → tie.After-vectors-start
+begins c = c .before
+
+abbrev ends : tie.After-copy-at → tie.After-vectors-end
+ends c = c .before .before
+
+-- the stored vectors as they are lent
+vectors-part : (c : tie.After-vectors-end) → let from = begins c .vectors-start .result in let begun = start (begins c) in
+    take (c .vectors-end .result - from) (drop from (begun .args .work .now))
+    ≡ region (begun .args .work .now) (vectorsStart (begun .args .p)) (begun .args .p .d1 * begun .args .p .t)
+vectors-part c =
+    let from = begins c .vectors-start in
+    let begun = start (begins c) in
+    let count = begun .args .p .d1 * begun .args .p .t in
+    region-part (begun .args .work .now) (from .result) count (c .vectors-end .result) (omega (arith, c .vectors-end .ensures, from .ensures))
+    ∙ ap (λ (at : ℕ). region (begun .args .work .now) at count) (from .ensures)
+
 copy-at-requires : tie.Need-copy-at-requires
 copy-at-requires c κs =
-    let start = c .before .before .before .before .before .before .before in
-    omega (arith, start .pre .0 .2, start .pre .0 .4, seed-room (setOf (start .args .set)))
+    let begun = start (begins (c .before)) in
+    omega (arith, begun .pre .0 .2, begun .pre .0 .4, seed-room (begun .args .p))
 
 mul-pack-into : tie.Need-mul-pack-into
 mul-pack-into c =
-    let at-vectors-start = c .before .before .before .before .before in
-    let start = at-vectors-start .before .before .before .before .before in
-    let pre = start .pre .0 in
-    omega (arith, at-vectors-start .vectors-start .ensures, vectors-room (start .args .set) (pre .0) (pre .1), work-most (start .args .set) (pre .0) (pre .1))
+    let from = begins (ends (c .before .before)) in
+    let begun = start from in
+    let pre = begun .pre .0 in
+    omega (arith, from .vectors-start .ensures, vectors-room (begun .args .p) (pre .0) (pre .1), work-most (begun .args .p) (pre .0) (pre .1))
 
 part-pack-into-end : tie.Need-part-pack-into-end
 part-pack-into-end c =
-    let at-vectors-end = c .before .before .before .before in
-    let start = at-vectors-end .before .before .before .before .before .before in
-    let pre = start .pre .0 in
-    omega (arith, at-vectors-end .vectors-end .ensures, pre .3, vectors-room (start .args .set) (pre .0) (pre .1))
+    let end = ends (c .before .before) in
+    let begun = start (begins end) in
+    let pre = begun .pre .0 in
+    omega (arith, end .vectors-end .ensures, pre .3, vectors-room (begun .args .p) (pre .0) (pre .1))
 
 sub-pack-into-2 : tie.Need-sub-pack-into-2
 sub-pack-into-2 c =
-    let at-copy-at = c .before .before .before in
-    let start = at-copy-at .before .before .before .before .before .before .before .before in
-    omega (arith, at-copy-at .copy-at .kept .0, start .pre .0 .4, seed-room (setOf (start .args .set)))
+    let copied = c .before .before .before in
+    let begun = start (begins (ends copied)) in
+    omega (arith, copied .copy-at .kept .0, begun .pre .0 .4, seed-room (begun .args .p))
 
 part-pack-into-start-2 : tie.Need-part-pack-into-start-2
 part-pack-into-start-2 c =
-    let at-copy-at = c .before .before .before in
-    let start = at-copy-at .before .before .before .before .before .before .before .before in
-    omega (arith, at-copy-at .copy-at .kept .0, start .pre .0 .4, seed-room (setOf (start .args .set)))
+    let copied = c .before .before .before in
+    let begun = start (begins (ends copied)) in
+    omega (arith, copied .copy-at .kept .0, begun .pre .0 .4, seed-room (begun .args .p))
 
 pack-into-requires : tie.Need-pack-into-requires
 pack-into-requires c κs =
-    let at-vectors-end = c .before .before .before .before .before .before in
-    let at-vectors-start = at-vectors-end .before in
-    let at-parameters-of = at-vectors-start .before in
-    let start = at-parameters-of .before .before .before .before in
-    let set = start .args .set in
-    let pre = start .pre .0 in
-    let work = start .args .work .now in
-    let from = at-vectors-start .vectors-start in
-    let count = setOf set .d1 * setOf set .t in
-    let part : take (at-vectors-end .vectors-end .result - from .result) (drop (from .result) work) ≡ region work (vectorsStart (setOf set)) count =
-    region-part work (from .result) count (at-vectors-end .vectors-end .result) (omega (arith, at-vectors-end .vectors-end .ensures, from .ensures))
-    ∙ ap (λ (at : ℕ). region work at count) (from .ensures) in
-    rw (at-parameters-of .parameters-of .ensures, part)
-    (record { least = omega (arith, byteRules set (pre .0) (pre .1) .kept-byte); most = omega (arith, rules set (pre .1) .width-most) }, start .pre .1)
+    let end = ends (c .before .before .before .before) in
+    let begun = start (begins end) in
+    let pre = begun .pre .0 in
+    rw (vectors-part end) (
+      record { least = omega (arith, pre .0 .kept-byte); most = omega (arith, listed-rules (begun .args .p) (pre .1) .width-most) },
+      begun .pre .1,
+    )
 
 returns : tie.Need-returns
 unfolding publicKeyBytes
 returns c =
-    let at-copy-at = c .before .before .before .before .before .before .before in
-    let at-vectors-end = at-copy-at .before .before in
-    let at-vectors-start = at-vectors-end .before in
-    let at-parameters-of = at-vectors-start .before in
-    let start = at-parameters-of .before .before .before .before in
-    let set = start .args .set in
-    let pre = start .pre .0 in
-    let work = start .args .work .now in
-    let from = at-vectors-start .vectors-start in
-    let count = setOf set .d1 * setOf set .t in
-    let part : take (at-vectors-end .vectors-end .result - from .result) (drop (from .result) work) ≡ region work (vectorsStart (setOf set)) count =
-    region-part work (from .result) count (at-vectors-end .vectors-end .result) (omega (arith, at-vectors-end .vectors-end .ensures, from .ensures))
-    ∙ ap (λ (at : ℕ). region work at count) (from .ensures) in
-    let copied = at-copy-at .copy-at in
-    let room : length (copied .last .0) ≡ 32 + packedBytes count (setOf set .width) = copied .kept .0 ∙ pre .4 in
-    let rest : length (take (length (copied .last .0) - 32) (drop 32 (copied .last .0))) ≡ packedBytes count (setOf set .width) =
-    part-length (copied .last .0) 32 (length (copied .last .0)) (packedBytes count (setOf set .width)) room (omega arith) in
-    let made : c .before .before .pack-into .last .1 .1 .0
-    ≡ pack (setOf set .width) (packedBytes count (setOf set .width)) (region work (vectorsStart (setOf set)) count) = rw
-    (at-parameters-of .parameters-of .ensures, part, rest) at (c .before .before .pack-into .ensures) in
-    two-parts (start .args .out .now) (copied .last .0) (start .args .seed .now) (c .before .before .pack-into .last .1 .1 .0) 32 (copied .ensures) (pre .2)
-    (pre .4 ∙ ap (λ (n : ℕ). 32 + n) (sym (ap length made ∙ pack-length (setOf set .width) _ _)))
+    let at = c .before .before .before .before .before .before .before in
+    let begun = start (begins (ends at)) in
+    let p = begun .args .p in
+    let pre = begun .pre .0 in
+    let copied = at .copy-at in
+    let packed = c .before .before .pack-into in
+    let bytes = packedBytes (p .d1 * p .t) (p .width) in
+    let room : length (copied .last .0) ≡ 32 + bytes = copied .kept .0 ∙ pre .4 in
+    let rest : length (take (length (copied .last .0) - 32) (drop 32 (copied .last .0))) ≡ bytes =
+    part-length (copied .last .0) 32 (length (copied .last .0)) bytes room (omega arith) in
+    let made : packed .last .1 .1 .0 ≡ pack (p .width) bytes (region (begun .args .work .now) (vectorsStart p) (p .d1 * p .t)) =
+    rw (vectors-part (ends at), rest) at (packed .ensures) in
+    two-parts (begun .args .out .now) (copied .last .0) (begun .args .seed .now) (packed .last .1 .1 .0) 32 (copied .ensures) (pre .2)
+    (pre .4 ∙ ap (λ (n : ℕ). 32 + n) (sym (ap length made ∙ pack-length (p .width) _ _)))
     ∙ rw made
 
 pub write-public-key-spec : {M : Type 1} → statement M
 write-public-key-spec =
     tie.close
     (tie.spec
-    (λ c κs. search needs)
     (λ c κs. search needs)
     (λ c κs. search needs)
     copy-at-requires

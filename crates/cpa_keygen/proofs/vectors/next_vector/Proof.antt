@@ -3,8 +3,6 @@
 use mathlib.Core.Path.{sym, ap, _∙_}
 use Prim.Native.Nat.{_+_, _*_}
 use Rattle.calls.specs.Region.{over}
-use Rattle.sets.specs.Table.{setOf}
-use Rattle.sets.proofs.Rules.{byteRules}
 use Rattle.samplers.specs.Blocks.{onward}
 use Rattle.samplers.specs.Seeded.{publicDrawn}
 use Rattle.cpa_keygen.specs.Held.{vectorsStart}
@@ -28,11 +26,10 @@ returns : tie.Need-returns
 returns c =
     let drawn = c .before .before .before .before in
     let begun = start drawn in
-    let p = setOf (begun .args .set) in
+    let p = begun .args .p in
     let seed = begun .args .seed .now in
-    let bytes = byteRules (begun .args .set) (begun .pre .0) (begun .pre .1) in
     let none =
-    stopped _ _ (publicDrawn p seed (begun .args .i)) (λ xs run. public-never-ends p bytes seed xs run (begun .args .i))
+    stopped _ _ (publicDrawn p seed (begun .args .i)) (λ xs run. public-never-ends p (begun .pre .0) seed xs run (begun .args .i))
     (sym (ap (onward seed) (c .enum-told2 .given .1)) ∙ drawn .draw-polynomial .ensures .0) in
     (drawn .draw-polynomial .ensures .0, λ t. absurd (true-false t (none .not-taken)))
 
@@ -41,13 +38,12 @@ key-vector-requires c κs =
     let found = c .before .before in
     let begun = start (draw found) in
     let pre = begun .pre in
-    let set = begun .args .set in
+    let p = begun .args .p in
     let seed = begun .args .seed .now in
     let polynomial = draw found .draw-polynomial in
-    let drawn =
-    advanced _ _ (publicDrawn (setOf set) seed (begun .args .i)) (sym (ap (onward seed) (found .enum-told .given .1)) ∙ polynomial .ensures .0) in
+    let drawn = advanced _ _ (publicDrawn p seed (begun .args .i)) (sym (ap (onward seed) (found .enum-told .given .1)) ∙ polynomial .ensures .0) in
     let placed =
-    polynomial-placed set (pre .1) seed (polynomial .last .1 .1 .1 .1 .0) (begun .args .i) (polynomial .kept .1 .1 .1 .1 .0 ∙ pre .7)
+    polynomial-placed p (pre .1) seed (polynomial .last .1 .1 .1 .1 .0) (begun .args .i) (polynomial .kept .1 .1 .1 .1 .0 ∙ pre .7)
     (polynomial .ensures .1 (drawn .all-taken)) in
     (pre .0, pre .1, pre .3, pre .5, placed, pre .8)
 
@@ -59,7 +55,7 @@ store-vector-requires c κs =
     let pre = begun .pre in
     let vector = made .key-vector in
     let size = vector .kept .1 .1 .1 .0 ∙ drawn .draw-polynomial .kept .1 .1 .1 .1 .0 ∙ pre .7 in
-    let below = vector-below (begun .args .set) (pre .1) (vector .last .1 .1 .1 .0) _ (begun .args .work .now) (begun .args .i) (vector .ensures) in
+    let below = vector-below (begun .args .p) (pre .1) (vector .last .1 .1 .1 .0) _ (begun .args .work .now) (begun .args .i) (vector .ensures) in
     (pre .0, pre .1, pre .3, pre .6, size, below, pre .8 .size)
 
 returns-2 : tie.Need-returns-2
@@ -67,7 +63,7 @@ returns-2 c =
     let made = c .before .before .before .before .before .before .before in
     let drawn = draw (told made) in
     let begun = start drawn in
-    let p = setOf (begun .args .set) in
+    let p = begun .args .p in
     let work = begun .args .work .now in
     let polynomial = drawn .draw-polynomial in (
       polynomial .ensures .0,

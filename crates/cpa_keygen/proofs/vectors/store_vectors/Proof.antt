@@ -2,6 +2,7 @@
 -- Assumes nothing.
 use mathlib.Core.Path.{_∙_}
 use native.Mathlib.Omega.{arith}
+use Rattle.sets.proofs.Rules.{listed-rules}
 use Rattle.sets.proofs.Transforms.{size-most}
 use Rattle.calls.proofs.Parts.{array-front}
 use Rattle.ntt_products.proofs.Laws.{table-most}
@@ -12,32 +13,32 @@ use Rattle.cpa_keygen.proofs.vectors.store_vectors.Tie as tie
 part-tables-end : tie.Need-part-tables-end
 part-tables-end c =
     let start = c .before .before .before .before .before in
-    omega (arith, c .before .before .table-length .ensures, table-most (start .args .set) (start .pre .1) 3)
+    omega (arith, c .before .before .table-length .ensures, table-most (start .args .p) (start .pre .1) 3)
 
 part-inverse-tables-end : tie.Need-part-inverse-tables-end
 part-inverse-tables-end c =
     let start = c .before .before .before .before .before .before in
-    omega (arith, c .before .before .table-length2 .ensures, table-most (start .args .set) (start .pre .1) 1)
+    omega (arith, c .before .before .table-length2 .ensures, table-most (start .args .p) (start .pre .1) 1)
 
 part-x-end : tie.Need-part-x-end
 part-x-end c =
     let start = c .before .before .before .before .before .before .before in
-    omega (arith, c .before .before .size-of .ensures, size-most (start .args .set) (start .pre .1) 3)
+    omega (arith, c .before .before .transform-size .ensures, size-most (start .args .p) (listed-rules _ (start .pre .1)) 3)
 
 vectors-with-buffers-requires : tie.Need-vectors-with-buffers-requires
 vectors-with-buffers-requires c κs =
     let start = c .before .before .before .before .before .before .before .before .before in
-    let set = start .args .set in
+    let p = start .args .p in
     let pre = start .pre in
     let third = c .before .before .before .before .before .before .table-length in
     let first = c .before .before .before .before .before .table-length2 in
-    let size = c .before .before .before .before .size-of in (
+    let size = c .before .before .before .before .transform-size in (
       pre .0,
       pre .1,
       pre .2,
-      array-front 3605 (third .result) (omega (arith, third .ensures, table-most set (pre .1) 3)) ∙ third .ensures,
-      array-front 3605 (first .result) (omega (arith, first .ensures, table-most set (pre .1) 1)) ∙ first .ensures,
-      array-front 3328 (size .result) (omega (arith, size .ensures, size-most set (pre .1) 3)) ∙ size .ensures,
+      array-front 3605 (third .result) (omega (arith, third .ensures, table-most p (pre .1) 3)) ∙ third .ensures,
+      array-front 3605 (first .result) (omega (arith, first .ensures, table-most p (pre .1) 1)) ∙ first .ensures,
+      array-front 3328 (size .result) (omega (arith, size .ensures, size-most p (listed-rules p (pre .1)) 3)) ∙ size .ensures,
       pre .3,
     )
 

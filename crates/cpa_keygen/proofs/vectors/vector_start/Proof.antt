@@ -8,25 +8,16 @@ use Rattle.cpa_keygen.proofs.vectors.vector_start.Tie as tie
 
 mul-result : tie.Need-mul-result
 mul-result c =
-    let start = c .before .before .before in
-    rw (c .before .before .parameters-of .ensures)
-    (omega (arith, vector-short (start .args .set) (start .pre .0) (start .pre .1) (start .args .i) (start .pre .2)))
+    let start = c .before .before in
+    omega (arith, vector-short (start .args .p) (start .pre .0) (start .pre .1) (start .args .i) (start .pre .2))
 
 add-result : tie.Need-add-result
 add-result c =
-    let start = c .before .before .before in
-    rw (c .before .before .parameters-of .ensures, c .before .vectors-start .ensures)
-    (omega (arith, vector-short (start .args .set) (start .pre .0) (start .pre .1) (start .args .i) (start .pre .2)))
+    let start = c .before .before in
+    rw (c .before .vectors-start .ensures) (omega (arith, vector-short (start .args .p) (start .pre .0) (start .pre .1) (start .args .i) (start .pre .2)))
 
 returns : tie.Need-returns
-returns c = rw (c .before .before .parameters-of .ensures, c .before .vectors-start .ensures)
+returns c = rw (c .before .vectors-start .ensures)
 
 pub vector-start-spec : {M : Type 1} → statement M
-vector-start-spec =
-    tie.close
-    (tie.spec
-    (λ c κs. search needs)
-    (λ c κs. search needs)
-    mul-result
-    add-result
-    returns)
+vector-start-spec = tie.close (tie.spec (λ c κs. search needs) mul-result add-result returns)

@@ -1,12 +1,11 @@
 -- Every number before the first that is none is a residue.
 -- Assumes nothing.
-use mathlib.Core.Path.{_≡_, ap}
+use mathlib.Core.Path.{_≡_}
 use mathlib.Core.Bool.{true, false}
 use Prim.Native.Nat.{ℕ}
 use lib.ListN.{getD}
 use native.Mathlib.Omega.{arith}
 use borrow.Author.Tests.{leb-true, ltb-true}
-use Rattle.sets.specs.declared.Parameters.{Parameters}
 use Rattle.calls.specs.Checks.{below}
 use Rattle.calls.proofs.Checks.{passing-before, passing-within}
 use borrow.Author.Needs.{needs}
@@ -24,24 +23,19 @@ returns-2 : tie.Need-returns-2
 returns-2 c e = absurd (never e)
 
 returns-3 : tie.Need-returns-3
-returns-3 c e = absurd (never e)
-
-returns-4 : tie.Need-returns-4
-returns-4 c e =
-    let start = c .before .before .before .before .before .before .before .before .before in
-    let q = ap (λ (p : Parameters). p .q) (c .before .parameters-of .ensures) in
-    let limit = c .before .parameters-of .result .q in
+returns-3 c e =
+    let start = c .before .before .before .before .before .before .before in
+    let limit = start .args .p .q in
     let xs = start .args .x .now in
     let found = c .first-at-least .ensures in
     let most = leb-true (start .args .n) (c .first-at-least .result) e in
     let within = passing-within (below limit) 0 xs in (
-      omega arith,
-      omega (arith, c .before .before .before .before .before .table-length .ensures),
+      omega (arith, c .before .before .before .before .table-length .ensures),
       record {
-        size = omega (arith, c .before .before .before .size-of .ensures);
-        inside = omega (arith, most, found, within, c .before .before .before .size-of .ensures);
+        size = omega (arith, c .before .before .transform-size .ensures);
+        inside = omega (arith, most, found, within, c .before .before .transform-size .ensures);
         residues = record {
-          each = λ j h. omega (arith, q, ltb-true (getD xs j 0) limit (passing-before (below limit) 0 xs 0 j (omega (arith, found, most))));
+          each = λ j h. omega (arith, ltb-true (getD xs j 0) limit (passing-before (below limit) 0 xs 0 j (omega (arith, found, most))));
         };
       },
     )
@@ -50,11 +44,9 @@ pub ready-spec : {M : Type 1} → statement M
 ready-spec =
     tie.close
     (tie.spec
+    (λ c κs. search needs)
     returns
     (λ c κs. search needs)
     returns-2
     (λ c κs. search needs)
-    returns-3
-    (λ c κs. search needs)
-    (λ c κs. search needs)
-    returns-4)
+    returns-3)

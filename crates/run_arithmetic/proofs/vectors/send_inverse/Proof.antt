@@ -4,15 +4,21 @@ use borrow.Author.Needs.{needs}
 use Rattle.run_arithmetic.proofs.vectors.send_inverse.Statement.{statement}
 use Rattle.run_arithmetic.proofs.vectors.send_inverse.Tie as tie
 
+-- the entry of the function
+abbrev start : tie.After-ready → tie.Start
+start c = c .before .before .before .before .before
+
 load-inverse-tables-requires : tie.Need-load-inverse-tables-requires
-load-inverse-tables-requires c κs = let ok = c .before .before .ready .ensures (c .before .if1 .taken) in (ok .0, ok .1)
+load-inverse-tables-requires c κs =
+    let ready = c .before .before in
+    (start ready .pre, ready .ready .ensures (c .before .if1 .taken) .0)
 
 send-first-inverse-requires : tie.Need-send-first-inverse-requires
 send-first-inverse-requires c κs =
     let loaded = c .before .before .before .before in
     let test = loaded .before .before in
     let ok = test .before .ready .ensures (test .if1 .taken) in
-    (ok .0, loaded .load-inverse-tables .ensures, ok .2)
+    (start (test .before) .pre, loaded .load-inverse-tables .ensures, ok .1)
 
 pub send-inverse-spec : {M : Type 1} → statement M
 send-inverse-spec =

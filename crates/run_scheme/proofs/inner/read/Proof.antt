@@ -1,20 +1,30 @@
 -- Every slice has the set's length when the ciphertext is read.
 -- Assumes nothing.
-use mathlib.Core.Path.{ap, _∙_}
+use mathlib.Core.Path.{_∙_}
+use Prim.Native.Nat.{ℕ}
 use native.Mathlib.Omega.{arith}
 use borrow.Author.Needs.{needs}
-use Rattle.sets.specs.Rules.{Rules}
-use Rattle.sets.specs.Derived.{cpaCiphertextBytes}
-use Rattle.sets.proofs.Rules.{rules-of}
-use Rattle.scheme.specs.Answers.{workLength}
+use Rattle.sets.specs.Table.{IsSet, Listed}
+use Rattle.sets.specs.Rules.{Rules, ByteRules}
+use Rattle.sets.proofs.Rules.{listed-of, rules-of, byteRules-of}
 use Rattle.run_scheme.proofs.inner.read.Statement.{statement}
 use Rattle.run_scheme.proofs.inner.read.Tie as tie
 
--- the set's numbers keep the rules
+-- the record is that of a set from 1 on, and keeps the rules
+abbrev set : tie.After-parameters-of → ℕ
+set c = c .before .before .before .before .before .before .before .args .set
+
+low : (c : tie.After-parameters-of) → IsSet (set c)
+low c = omega (arith, c .before .if2 .left)
+
+listed : (c : tie.After-parameters-of) → Listed (c .parameters-of .result)
+listed c = listed-of (set c) (low c) _ (c .parameters-of .ensures)
+
 kept : (c : tie.After-parameters-of) → Rules (c .parameters-of .result)
-kept c =
-    let start = c .before .before .before .before .before .before .before in
-    rules-of (start .args .set) (omega (arith, c .before .if2 .left)) _ (c .parameters-of .ensures)
+kept c = rules-of (set c) (low c) _ (c .parameters-of .ensures)
+
+bytes : (c : tie.After-parameters-of) → ByteRules (c .parameters-of .result)
+bytes c = byteRules-of (set c) (low c) _ (c .parameters-of .ensures) (c .before .before .if1 .left)
 
 cpa-ciphertext-bytes-requires : tie.Need-cpa-ciphertext-bytes-requires
 cpa-ciphertext-bytes-requires c κs = kept (c .before)
@@ -27,11 +37,10 @@ decrypt-requires c κs =
     let sixth = c .before .before in
     let fourth = sixth .before .before .before in
     let third = fourth .before .before in
-    let second = third .before .before in
-    let table = third .before .parameters-of .ensures in
-    let sealed = fourth .if4 .left ∙ fourth .before .cpa-ciphertext-bytes .ensures ∙ ap cpaCiphertextBytes table in
-    let work = sixth .if6 .left ∙ sixth .before .work-length .ensures ∙ ap workLength table in
-    (second .before .if1 .left, omega (arith, second .if2 .left), third .if3 .left, sealed, sixth .before .before .if5 .left, work)
+    let known = third .before in
+    let sealed = fourth .if4 .left ∙ fourth .before .cpa-ciphertext-bytes .ensures in
+    let work = sixth .if6 .left ∙ sixth .before .work-length .ensures in
+    (bytes known, listed known, third .if3 .left, sealed, sixth .before .before .if5 .left, work)
 
 pub read-spec : {M : Type 1} → statement M
 read-spec =

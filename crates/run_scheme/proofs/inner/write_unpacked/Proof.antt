@@ -1,22 +1,31 @@
 -- Every slice has the set's length, and every number of the key is below q, when the numbers are worked out.
 -- Assumes nothing.
-use mathlib.Core.Path.{sym, ap, _∙_}
+use mathlib.Core.Path.{sym, _∙_}
+use Prim.Native.Nat.{ℕ}
 use native.Mathlib.Omega.{arith}
 use borrow.Author.Needs.{needs}
 use borrow.Author.Tests.{not-false}
-use Rattle.sets.specs.declared.Parameters.{Parameters}
-use Rattle.sets.specs.Rules.{Rules}
-use Rattle.sets.specs.Derived.{publicKeyBytes}
-use Rattle.sets.proofs.Rules.{rules-of}
-use Rattle.scheme.specs.Answers.{workLength}
+use Rattle.sets.specs.Table.{IsSet, Listed}
+use Rattle.sets.specs.Rules.{Rules, ByteRules}
+use Rattle.sets.proofs.Rules.{listed-of, rules-of, byteRules-of}
 use Rattle.run_scheme.proofs.inner.write_unpacked.Statement.{statement}
 use Rattle.run_scheme.proofs.inner.write_unpacked.Tie as tie
 
--- the set's numbers keep the rules
+-- the record is that of a set from 1 on, and keeps the rules
+abbrev set : tie.After-parameters-of → ℕ
+set c = c .before .before .before .before .before .before .before .before .args .set
+
+low : (c : tie.After-parameters-of) → IsSet (set c)
+low c = omega (arith, c .before .if2 .left)
+
+listed : (c : tie.After-parameters-of) → Listed (c .parameters-of .result)
+listed c = listed-of (set c) (low c) _ (c .parameters-of .ensures)
+
 kept : (c : tie.After-parameters-of) → Rules (c .parameters-of .result)
-kept c =
-    let start = c .before .before .before .before .before .before .before .before in
-    rules-of (start .args .set) (omega (arith, c .before .if2 .left)) _ (c .parameters-of .ensures)
+kept c = rules-of (set c) (low c) _ (c .parameters-of .ensures)
+
+bytes : (c : tie.After-parameters-of) → ByteRules (c .parameters-of .result)
+bytes c = byteRules-of (set c) (low c) _ (c .parameters-of .ensures) (c .before .before .if1 .left)
 
 public-key-bytes-requires : tie.Need-public-key-bytes-requires
 public-key-bytes-requires c κs = kept c
@@ -28,11 +37,10 @@ key-below-requires : tie.Need-key-below-requires
 key-below-requires c κs =
     let sixth = c .before in
     let third = sixth .before .before .before .before .before in
-    let second = third .before .before .before in
-    let table = third .before .before .parameters-of .ensures in
-    let public = third .if3 .left ∙ third .before .public-key-bytes .ensures ∙ ap publicKeyBytes table in
-    let work = sixth .if6 .left ∙ sixth .before .work-length .ensures ∙ ap workLength table in
-    (second .before .if1 .left, omega (arith, second .if2 .left), public, work)
+    let known = third .before .before in
+    let public = third .if3 .left ∙ third .before .public-key-bytes .ensures in
+    let work = sixth .if6 .left ∙ sixth .before .work-length .ensures in
+    (bytes known, listed known, public, work)
 
 numbers-before-packing-requires : tie.Need-numbers-before-packing-requires
 numbers-before-packing-requires c κs =
@@ -42,13 +50,12 @@ numbers-before-packing-requires c κs =
     let fifth = sixth .before .before in
     let fourth = fifth .before .before in
     let third = fourth .before in
-    let second = third .before .before .before in
-    let table = third .before .before .parameters-of .ensures in
-    let public = third .if3 .left ∙ third .before .public-key-bytes .ensures ∙ ap publicKeyBytes table in
-    let count = fifth .if5 .left ∙ ap (λ (p : Parameters). p .d) table in
+    let known = third .before .before in
+    let public = third .if3 .left ∙ third .before .public-key-bytes .ensures in
+    let count = fifth .if5 .left in
     let below = sym (looked .key-below .ensures) ∙ not-false _ (seventh .if7 .left) in
-    let work = looked .key-below .kept .1 .1 .0 ∙ sixth .if6 .left ∙ sixth .before .work-length .ensures ∙ ap workLength table in
-    (second .before .if1 .left, omega (arith, second .if2 .left), public, below, fourth .if4 .left, count, work)
+    let work = looked .key-below .kept .1 .1 .0 ∙ sixth .if6 .left ∙ sixth .before .work-length .ensures in
+    (bytes known, listed known, public, below, fourth .if4 .left, count, work)
 
 pub write-unpacked-spec : {M : Type 1} → statement M
 write-unpacked-spec =

@@ -3,7 +3,7 @@
 use mathlib.Core.Path.{sym, ap, _∙_}
 use native.Mathlib.Omega.{arith}
 use Rattle.calls.specs.Outcome.{outcome}
-use Rattle.sets.proofs.Rules.{rules}
+use Rattle.sets.proofs.Rules.{rules-of}
 use Rattle.sheet_rows.proofs.Sets.{sheet-set}
 use Rattle.sheet.specs.Sheet.{rowsText}
 use Rattle.sheet_parts.proofs.Laws.{printed-as}
@@ -29,12 +29,12 @@ write-accepted-requires c κs =
     let pre = start .pre in
     let made = filled told .fill in
     let rows = made .ensures .1 (ap outcome (told .enum-told .given .1)) in
-    let set = sheet-set (start .args .set) (pre .0) in
-    let kept = made .kept .1 .1 in
+    let rules = rules-of (start .args .set) (sheet-set (start .args .set) (pre .0)) _ (pre .7) in
+    let kept = made .kept .1 .1 .1 in
     let long = kept .0 ∙ pre .2 in (
-      set,
+      rules,
       record { sizes = rows .sizes; sent-length = kept .1 .0 ∙ pre .3 ∙ sym long; read-length = kept .1 .1 .0 ∙ pre .4 ∙ sym long },
-      omega (arith, long, rules (start .args .set) set .most-d),
+      omega (arith, long, rules .most-d),
       pre .5,
     )
 
@@ -44,7 +44,8 @@ returns c =
     let start = start-of (filled told) in
     let made = filled told .fill .ensures in
     let done = ap outcome (told .enum-told .given .1) in
-    printed-as (accepted-text (start .args .set) (start .args .input .now) (made .0) done (made .1 done)) (c .before .before .write-accepted .ensures)
+    printed-as (accepted-text (start .args .set) (start .args .p) (start .args .input .now) (start .pre .7) (made .0) done (made .1 done))
+    (c .before .before .write-accepted .ensures)
 
 returns-2 : tie.Need-returns-2
 returns-2 c =

@@ -1,7 +1,6 @@
 -- The sum fits a word.
 -- Assumes nothing.
 use Rattle.sheet_noise.proofs.Words.{sum-fits, sum-is}
-use borrow.Author.Needs.{needs}
 use Rattle.sheet_noise.proofs.whole.plus.Statement.{statement}
 use Rattle.sheet_noise.proofs.whole.plus.Tie as tie
 

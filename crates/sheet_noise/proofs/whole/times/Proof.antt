@@ -1,7 +1,6 @@
 -- The product fits a word.
 -- Assumes nothing.
 use Rattle.sheet_noise.proofs.Words.{product-fits, product-is}
-use borrow.Author.Needs.{needs}
 use Rattle.sheet_noise.proofs.whole.times.Statement.{statement}
 use Rattle.sheet_noise.proofs.whole.times.Tie as tie
 

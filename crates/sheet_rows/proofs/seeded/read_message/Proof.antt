@@ -4,11 +4,8 @@ use mathlib.Core.Path.{_≡_, sym, ap, _∙_}
 use borrow.Author.Needs.{needs}
 use Rattle.calls.specs.Outcome.{outcome, accepted}
 use Rattle.calls.proofs.Outcome.{accepted-refused}
-use Rattle.sets.specs.Table.{setOf}
-use Rattle.sets.proofs.Schemes.{encryption-some}
 use Rattle.scheme.specs.Answers.{keyDraws}
-use Rattle.scheme.proofs.Conditions.{set-conditions}
-use Rattle.sheet_rows.proofs.Sets.{encryption-set}
+use Rattle.scheme.proofs.Conditions.{listed-conditions}
 use Rattle.sheet_rows.proofs.SeededLaws.{three-steps}
 use Rattle.sheet_rows.proofs.seeded.read_message.Statement.{statement}
 use Rattle.sheet_rows.proofs.seeded.read_message.Tie as tie
@@ -28,15 +25,13 @@ sealed c = c .before .before .before .before .before
 
 -- no draw was refused
 drawn : (c : tie.After-enum-told)
-    → keyDraws (setOf (start-of (keyed (c .before)) .args .set)) (start-of (keyed (c .before)) .args .seed .now) ≡ accepted
+    → keyDraws (start-of (keyed (c .before)) .args .p) (start-of (keyed (c .before)) .args .seed .now) ≡ accepted
 drawn c = sym (keyed (c .before) .keygen .ensures .0) ∙ ap outcome (c .enum-told .given .1)
 
 keygen-requires : tie.Need-keygen-requires
 keygen-requires c κs =
-    let start = lent (c .before .before) in
-    let set = start .args .set in
-    let pre = start .pre in
-    (encryption-some set (pre .0), encryption-set set (pre .0), pre .1, pre .4, pre .5, pre .8)
+    let pre = lent (c .before .before) .pre in
+    (pre .0, pre .1, pre .2, pre .5, pre .6, pre .9)
 
 returns : tie.Need-returns
 returns c =
@@ -47,25 +42,23 @@ returns c =
 encrypt-requires : tie.Need-encrypt-requires
 encrypt-requires c κs =
     let made = keyed (c .before .before .before .before) in
-    let set = start-of made .args .set in
     let pre = start-of made .pre in
     let kept = made .keygen .kept in
-    (encryption-some set (pre .0), encryption-set set (pre .0), kept .1 .1 .0 ∙ pre .4, pre .2, pre .3, pre .6, kept .1 .1 .1 .1 .0 ∙ pre .8)
+    (pre .0, pre .1, kept .1 .1 .0 ∙ pre .5, pre .3, pre .4, pre .7, kept .1 .1 .1 .1 .0 ∙ pre .9)
 
 decrypt-requires : tie.Need-decrypt-requires
 decrypt-requires c κs =
     let sent = sealed (c .before .before .before) in
     let made = keyed (sent .before .before .before .before .before) in
-    let set = start-of made .args .set in
     let pre = start-of made .pre in
     let first = made .keygen .kept in
     let second = sent .encrypt .kept in (
-      encryption-some set (pre .0),
-      encryption-set set (pre .0),
-      first .1 .1 .1 .0 ∙ pre .5,
-      second .1 .1 .1 .1 .0 ∙ pre .6,
-      pre .7,
-      second .1 .1 .1 .1 .1 .0 ∙ first .1 .1 .1 .1 .0 ∙ pre .8,
+      pre .0,
+      pre .1,
+      first .1 .1 .1 .0 ∙ pre .6,
+      second .1 .1 .1 .1 .0 ∙ pre .7,
+      pre .8,
+      second .1 .1 .1 .1 .1 .0 ∙ first .1 .1 .1 .1 .0 ∙ pre .9,
     )
 
 returns-2 : tie.Need-returns-2
@@ -76,12 +69,10 @@ returns-2 c =
     let made = keyed (told .before) in
     let start = start-of made in
     let args = start .args in
-    let set = args .set in
-    let conditions = set-conditions set (encryption-some set (start .pre .0)) (encryption-set set (start .pre .0)) in
     let first = made .keygen .ensures in
     let left =
-    three-steps conditions (args .seed .now) (args .message .now) (args .sealing .now) (drawn told) _ _ _ _ (first .1 .0) (first .1 .1)
-    (sent .encrypt .ensures .1) (read .decrypt .ensures .1) in
+    three-steps (listed-conditions (args .p) (start .pre .0) (start .pre .1)) (args .seed .now) (args .message .now) (args .sealing .now) (drawn told) _ _ _ _
+    (first .1 .0) (first .1 .1) (sent .encrypt .ensures .1) (read .decrypt .ensures .1) in
     (first .0, (λ _. left .0, λ _. left .1))
 
 pub read-message-spec : {M : Type 1} → statement M

@@ -4,11 +4,8 @@ use mathlib.Core.Path.{_≡_, sym, ap, _∙_}
 use borrow.Author.Needs.{needs}
 use Rattle.calls.specs.Outcome.{outcome, accepted}
 use Rattle.calls.proofs.Outcome.{accepted-refused}
-use Rattle.sets.specs.Table.{setOf}
-use Rattle.sets.proofs.Schemes.{encryption-some}
 use Rattle.scheme.specs.Answers.{keyDraws}
 use Rattle.claim.proofs.Draws.{key-drawn}
-use Rattle.sheet_rows.proofs.Sets.{encryption-set}
 use Rattle.sheet_rows.proofs.SeededLaws.{rows-filled}
 use Rattle.sheet_rows.proofs.seeded.rows_with_buffers.Statement.{statement}
 use Rattle.sheet_rows.proofs.seeded.rows_with_buffers.Tie as tie
@@ -30,7 +27,7 @@ abbrev noise-at : tie.After-bits-of → tie.After-noise-of
 noise-at c = c .before .before .before .before .before
 
 -- no draw was refused
-drawn : (c : tie.After-enum-told) → keyDraws (setOf (start-of (read-of c) .args .set)) (start-of (read-of c) .args .seed .now) ≡ accepted
+drawn : (c : tie.After-enum-told) → keyDraws (start-of (read-of c) .args .p) (start-of (read-of c) .args .seed .now) ≡ accepted
 drawn c = sym (read-of c .read-message .ensures .0) ∙ ap outcome (c .enum-told .given .1)
 
 returns : tie.Need-returns
@@ -42,17 +39,16 @@ noise-of-requires c κs =
     let made = read-of told in
     let start = start-of made in
     let pre = start .pre in
-    let set = start .args .set in
     let done = ap outcome (told .enum-told .given .1) in (
-      encryption-some set (pre .0),
-      encryption-set set (pre .0),
+      pre .0,
       pre .1,
       pre .2,
       pre .3,
+      pre .4,
       made .read-message .ensures .1 .0 done,
-      key-drawn (setOf set) (start .args .seed .now) (drawn told) .0,
-      pre .8,
-      made .read-message .kept .1 .1 .1 .1 .1 .1 .1 .1 .0 ∙ pre .11,
+      key-drawn (start .args .p) (start .args .seed .now) (drawn told) .0,
+      pre .9,
+      made .read-message .kept .1 .1 .1 .1 .1 .1 .1 .1 .0 ∙ pre .12,
     )
 
 returns-2 : tie.Need-returns-2
@@ -67,8 +63,8 @@ returns-2 c =
     let opened = made .read-message .ensures .1 .1 (ap outcome (told .enum-told .given .1)) in
     let values = noised .noise-of .ensures in (
       made .read-message .ensures .0,
-      λ _. rows-filled (setOf (args .set)) (args .seed .now) (args .message .now) (args .sealing .now) _ _ _ _ _ _
-          (values .0) (values .1) (sent .bits-of .ensures) (pre .9) (c .before .before .bits-of2 .ensures) (pre .10) opened,
+      λ _. rows-filled (args .p) (args .seed .now) (args .message .now) (args .sealing .now) _ _ _ _ _ _
+          (values .0) (values .1) (sent .bits-of .ensures) (pre .10) (c .before .before .bits-of2 .ensures) (pre .11) opened,
     )
 
 pub rows-with-buffers-spec : {M : Type 1} → statement M

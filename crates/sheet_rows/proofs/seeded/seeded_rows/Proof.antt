@@ -1,14 +1,12 @@
 -- The arrays have room for the keys, the ciphertext and the message of every set.
 -- Assumes nothing.
-use mathlib.Core.Path.{ap, _∙_}
+use mathlib.Core.Path.{_∙_}
 use Prim.Native.Nat.{_≤_}
 use native.Mathlib.Omega.{arith}
 use borrow.Author.Needs.{needs}
-use Rattle.sets.specs.Derived.{publicKeyBytes, cpaCiphertextBytes}
 use Rattle.sets.specs.Rules.{Rules}
-use Rattle.sets.proofs.Rules.{rules-of}
+use Rattle.sets.proofs.Rules.{listed-rules}
 use Rattle.calls.proofs.Parts.{array-front}
-use Rattle.sheet_rows.proofs.Sets.{encryption-set}
 use Rattle.sheet_rows.proofs.seeded.seeded_rows.Statement.{statement}
 use Rattle.sheet_rows.proofs.seeded.seeded_rows.Tie as tie
 
@@ -16,14 +14,9 @@ use Rattle.sheet_rows.proofs.seeded.seeded_rows.Tie as tie
 abbrev start-of : tie.After-slice-known3 → tie.Start
 start-of c = c .before .before .before .before .before .before
 
-parameters-of-requires : tie.Need-parameters-of-requires
-parameters-of-requires c κs = encryption-set (start-of c .args .set) (start-of c .pre .0)
-
 -- the set's numbers keep the rules
-kept : (c : tie.After-parameters-of) → Rules (c .parameters-of .result)
-kept c =
-    let start = start-of (c .before) in
-    rules-of (start .args .set) (encryption-set (start .args .set) (start .pre .0)) _ (c .parameters-of .ensures)
+kept : (c : tie.After-slice-known3) → Rules (start-of c .args .p)
+kept c = listed-rules (start-of c .args .p) (start-of c .pre .1)
 
 public-key-bytes-requires : tie.Need-public-key-bytes-requires
 public-key-bytes-requires c κs = kept c
@@ -47,21 +40,18 @@ part-ciphertext-end c = omega (arith, ciphertext-fits (c .before .before))
 rows-with-buffers-requires : tie.Need-rows-with-buffers-requires
 rows-with-buffers-requires c κs =
     let sized = c .before .before .before .before .before .before .before .before in
-    let start = start-of (sized .before .before .before) in
-    let pre = start .pre in
-    let e = sized .before .before .parameters-of .ensures in
+    let pre = start-of (sized .before .before) .pre in
     let key = sized .before .public-key-bytes in
-    let public = array-front 26912 (key .result) (public-fits sized) ∙ key .ensures ∙ ap publicKeyBytes e in
+    let public = array-front 26912 (key .result) (public-fits sized) ∙ key .ensures in
     let sent = sized .cpa-ciphertext-bytes in
-    let ciphertext = array-front 8320 (sent .result) (ciphertext-fits sized) ∙ sent .ensures ∙ ap cpaCiphertextBytes e in
+    let ciphertext = array-front 8320 (sent .result) (ciphertext-fits sized) ∙ sent .ensures in
     let seed = array-front 32 32 (omega arith) in
-    (pre .0, pre .1, pre .2, pre .3, public, seed, ciphertext, seed, pre .4, pre .5, pre .6, pre .7)
+    (pre .0, pre .1, pre .2, pre .3, pre .4, public, seed, ciphertext, seed, pre .5, pre .6, pre .7, pre .8)
 
 pub seeded-rows-spec : {M : Type 1} → statement M
 seeded-rows-spec =
     tie.close
     (tie.spec
-    parameters-of-requires
     public-key-bytes-requires
     cpa-ciphertext-bytes-requires
     (λ c. search needs)
