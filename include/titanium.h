@@ -7,13 +7,10 @@
  * element type, and not null where the length is not 0. No slice that a call writes may overlap another slice of the same call. Under these
  * conditions, which C cannot check, every call is proved to read and write nothing outside its slices and to end.
  *
- * Sets. 0 is Bench (middle product, calls on numbers and noise sheet only); 1 to 6 are Titanium-CPA Toy64, Lite96, Std128, Med160, Hi192, Super256, the
- * encryption scheme; 7 to 12 are Titanium-CCA in that order, the key exchange. 13 to 24 are 1 to 12 with the byte source AES-256 (003, section 3.4.5)
- * in place of KMACXOF256: the same lengths, other bytes. So the encryption sets are 1 to 6 and 13 to 18, the exchange sets 7 to 12 and 19 to 24. AES is
- * computed here with tables, whose reads tell something of a seed to a program that shares the processor's cache: where such programs run, take 1 to 12.
+ * Sets. 0 is Bench (the calls on numbers and the noise sheet only); 1 to 6 are Titanium-CPA Toy64, Lite96, Std128, Med160, Hi192, Super256, the
+ * encryption scheme; 7 to 12 are Titanium-CCA in that order, the key exchange.
  *
  *   set                 1      2      3      4      5      6      7      8      9     10     11     12
- *                      13     14     15     16     17     18     19     20     21     22     23     24
  *   public key      11552  13088  14720  16448  17952  23552  12192  14720  16352  18272  20512  26912  bytes
  *   secret key         32     32     32     32     32     32  12224  14752  16384  18304  20544  26944  bytes
  *   ciphertext       2560   2976   3520   4512   6016   8320   2720   3008   3552   4544   6048   8352  bytes
@@ -69,14 +66,13 @@ extern "C" {
 #define TITANIUM_MOST_CIPHERTEXT_BYTES 8352
 #define TITANIUM_MOST_WORK_NUMBERS 25080
 
-/* Lengths of a set's slices; 0 for a set above 24. */
+/* Lengths of a set's slices; 0 for a set above 12. */
 size_t titanium_public_key_bytes(size_t set);
 size_t titanium_secret_key_bytes(size_t set);
 size_t titanium_ciphertext_bytes(size_t set);
 size_t titanium_work_numbers(size_t set);
 
-/* Key exchange, sets 7 to 12 and 19 to 24. Refused with 1, 8 (an encryption set), 2, 9 (not keypair), 10, 3 (a number of a public key, also of that
-   inside a secret key), 5. */
+/* Key exchange, sets 7 to 12. Refused with 1, 8 (sets 1 to 6), 2, 9 (not keypair), 10, 3 (a number of a public key, also of that inside a secret key), 5. */
 
 /* The keys of a seed. */
 uint64_t titanium_keypair(size_t set, const uint8_t *seed, size_t seed_length, uint8_t *public_key, size_t public_key_length,
@@ -92,8 +88,8 @@ uint64_t titanium_decapsulate(size_t set, const uint8_t *secret_key, size_t secr
                               size_t ciphertext_length, uint8_t *shared_key, size_t shared_key_length, uint32_t *work,
                               size_t work_length);
 
-/* Encryption scheme, sets 1 to 6 and 13 to 18. Refused with 1, 8 (an exchange set), 2, 9 (not encryption_keypair), 10, 3 (a number of a public key or of
-   a ciphertext's first part), 5. */
+/* Encryption scheme, sets 1 to 6. Refused with 1, 8 (sets 7 to 12), 2, 9 (not encryption_keypair), 10, 3 (a number of a public key or of a ciphertext's
+   first part), 5. */
 
 /* The keys of a seed. */
 uint64_t titanium_encryption_keypair(size_t set, const uint8_t *seed, size_t seed_length, uint8_t *public_key,
@@ -113,13 +109,13 @@ uint64_t titanium_decrypt(size_t set, const uint8_t *secret_key, size_t secret_k
    refused one leaves every output as it was; the work slice is zero after 5. Refused with 1, 8, 2, 9, 10, 5; what a step gives is never refused by the
    next. The answer is 0 also where bits were misread: compare the message read with the message, or the two shared keys. */
 
-/* Encryption sets: the keys of a seed, the ciphertext of a message under a sealing seed, and the message read from it. */
+/* Sets 1 to 6: the keys of a seed, the ciphertext of a message under a sealing seed, and the message read from it. */
 uint64_t titanium_seal_and_read(size_t set, const uint8_t *seed, size_t seed_length, const uint8_t *message, size_t message_length,
                                 const uint8_t *sealing_seed, size_t sealing_seed_length, uint8_t *public_key, size_t public_key_length,
                                 uint8_t *secret_key, size_t secret_key_length, uint8_t *ciphertext, size_t ciphertext_length,
                                 uint8_t *message_read, size_t message_read_length, uint32_t *work, size_t work_length);
 
-/* Exchange sets: the keys of a seed, the ciphertext of a message with the sender's shared key, and the receiver's shared key. */
+/* Sets 7 to 12: the keys of a seed, the ciphertext of a message with the sender's shared key, and the receiver's shared key. */
 uint64_t titanium_share_a_key(size_t set, const uint8_t *seed, size_t seed_length, const uint8_t *message, size_t message_length,
                               uint8_t *public_key, size_t public_key_length, uint8_t *secret_key, size_t secret_key_length,
                               uint8_t *ciphertext, size_t ciphertext_length, uint8_t *sent_key, size_t sent_key_length,
@@ -132,25 +128,25 @@ uint64_t titanium_kmac256(const uint8_t *key, size_t key_length, const uint8_t *
 uint64_t titanium_kmacxof256(const uint8_t *key, size_t key_length, const uint8_t *input, size_t input_length,
                              const uint8_t *customization, size_t customization_length, uint8_t *out, size_t out_length);
 
-/* Draws over lent bytes, sets 1 to 24, one result for each number of `out`. Refused with 1, 2 (more than 4,096 results, or a multiplier past a
-   sealing's last position), 4, 5. The place of 4 and 5 is the result's; that of 1 and 2 is 0, since no result was begun. For sets 1 to 24
+/* Draws over lent bytes, sets 1 to 12, one result for each number of `out`. Refused with 1, 2 (more than 4,096 results, or a multiplier past a
+   sealing's last position), 4, 5. The place of 4 and 5 is the result's; that of 1 and 2 is 0, since no result was begun. For sets 1 to 12
    an empty `out` is accepted, whatever the first position. */
 uint64_t titanium_draw_residues(size_t set, const uint8_t *bytes, size_t bytes_length, uint32_t *out, size_t out_length);
 uint64_t titanium_draw_errors(size_t set, const uint8_t *bytes, size_t bytes_length, int32_t *out, size_t out_length);
 uint64_t titanium_draw_multipliers(size_t set, const uint8_t *bytes, size_t bytes_length, size_t first, int32_t *out,
                                    size_t out_length);
 
-/* The middle product, sets 0 to 24. Refused with 1, 6, 7 (transformed only), 3 with the place counted through a, then b. */
+/* The middle product, sets 0 to 12. Refused with 1, 6, 7 (transformed only), 3 with the place counted through a, then b. */
 uint64_t titanium_middle_product(size_t set, const uint32_t *a, size_t a_length, const uint32_t *b, size_t b_length, uint32_t *out,
                                  size_t out_length);
 uint64_t titanium_transformed_middle_product(size_t set, const uint32_t *a, size_t a_length, const uint32_t *b, size_t b_length,
                                              uint32_t *out, size_t out_length, uint32_t *work, size_t work_length);
 
-/* The partial transform and its inverse, sets 1 to 24 (003, section 3.2.2): the transform with the set's root of the size d1 * d2, any d1 and d2 whose
+/* The partial transform and its inverse, sets 1 to 12 (003, section 3.2.2): the transform with the set's root of the size d1 * d2, any d1 and d2 whose
    product is a transform size of the set. The numbers stand in d1 rows of d2; a transformed vector has at place d2 * r + c the value r + d1 * c of the
    transform. Rows of 256 numbers go through the scheme's own transforms; with other lengths each number takes some d1 + d2 products. input and output must
    not overlap; no work slice is lent. Refused in this order, and the place is 0 but for 3:
-     1   the set is not 1 to 24
+     1   the set is not 1 to 12
      11  m is 0 or above d1
      12  d1 * d2 is no transform size of the set; the product is that of whole numbers, and never wraps round
      2   input or output has not d1 * d2 numbers
@@ -163,7 +159,7 @@ uint64_t titanium_partial_transform(size_t set, size_t d1, size_t d2, size_t m, 
 uint64_t titanium_partial_inverse(size_t set, size_t d1, size_t d2, size_t m, const uint32_t *input, size_t input_length,
                                   uint32_t *output, size_t output_length);
 
-/* Key, sealing and reading on numbers, sets 0 to 24. Refused with 1, 2, 3; the place is counted through a, s, e for a key, through a, b, r,
+/* Key, sealing and reading on numbers, sets 0 to 12. Refused with 1, 2, 3; the place is counted through a, s, e for a key, through a, b, r,
    message for a sealing, through c1, c2, s for a reading. */
 uint64_t titanium_key_of_numbers(size_t set, const uint32_t *a, size_t a_length, const uint32_t *s, size_t s_length, const int32_t *e,
                                  size_t e_length, uint32_t *b, size_t b_length);
@@ -173,8 +169,8 @@ uint64_t titanium_sealing_of_numbers(size_t set, const uint32_t *a, size_t a_len
 uint64_t titanium_reading_of_numbers(size_t set, const uint32_t *c1, size_t c1_length, const uint32_t *c2, size_t c2_length,
                                      const uint32_t *s, size_t s_length, uint32_t *bits, size_t bits_length);
 
-/* The noise sheet of an input, set 0 and the encryption sets: how many bytes of text it wrote, which may be the line of a refusal; 0 where text has
-   fewer than 1,024 bytes or work has not 22,521 numbers. */
+/* The noise sheet of an input, sets 0 to 6: how many bytes of text it wrote, which may be the line of a refusal; 0 where text has fewer than
+   1,024 bytes or work has not 22,521 numbers. */
 #define TITANIUM_SHEET_BYTES 1024
 #define TITANIUM_SHEET_WORK_NUMBERS 22521
 size_t titanium_noise_sheet(const uint8_t *input, size_t input_length, uint8_t *text, size_t text_length, uint32_t *work,

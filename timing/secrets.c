@@ -66,7 +66,7 @@ int main(int count, char **words)
     size_t set = count > 2 ? strtoul(words[1], NULL, 10) : 1;
     marked = count > 2 ? words[2] : "key";
     memset(seed, 1, 32), memset(sealing_seed, 2, 32), memset(message, 3, 32);
-    if ((set - 1) % 12 < 6)
+    if (set < 7)
         encryption(set);
     else
         exchange(set);

@@ -5,7 +5,6 @@ mod scheme;
 mod stack;
 
 use comparison::arithmetic::Transform;
-use comparison::draws::Source;
 use comparison::parameters::set;
 use comparison::sponge;
 use std::hint::black_box;
@@ -39,15 +38,6 @@ fn bytes() {
     compare("SHAKE256 squeezing 64 KiB", 20, || shake(&key, &mut out), || sponge::shake256(black_box(&key), &mut other));
     compare("KMACXOF256 absorbing 64 KiB", 20, || kmac(&long, &mut out[..32]), || sponge::kmacxof256(&key, black_box(&long), b"", &mut other[..32]));
     compare("KMACXOF256 squeezing 64 KiB", 20, || kmac(&key, &mut out), || sponge::kmacxof256(&key, black_box(&key), b"", &mut other));
-    assert_eq!(out, other);
-}
-
-/// AES-256 as the byte source of a set: the key schedule of a seed, then block after block, so that the ratio is that of a block.
-fn blocks() {
-    let (s, seed) = (set(13).unwrap(), [9; 32]);
-    let (mut out, mut other) = (vec![0; 8192], Vec::new());
-    let mut rust = || other = Source::new(&s, black_box(&seed)).out(8192);
-    compare("AES-256, 512 blocks under one seed", 50, || proved::source(13, black_box(&seed), &mut out), &mut rust);
     assert_eq!(out, other);
 }
 
@@ -97,8 +87,6 @@ fn main() {
     scheme::table();
     println!("{:40} {:>10} {:>10} {:>6}", "", "proved", "Rust", "ratio");
     bytes();
-    blocks();
-    // sets 13 to 24 have the transforms of 1 to 12
     (1..13).for_each(transforms);
     println!("{:40} {:>10} {:>10} {:>6}", "", "one", "other", "ratio");
     (1..13).for_each(products);

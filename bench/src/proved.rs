@@ -1,4 +1,4 @@
-//! The proved transforms and byte source, by their C names (crates/measured). A slice is a pointer and a length.
+//! The proved transforms, by their C names (crates/measured). A slice is a pointer and a length.
 
 extern "C" {
     fn measured_table_length(set: usize, i: usize) -> usize;
@@ -6,7 +6,6 @@ extern "C" {
     fn measured_inverse_tables(set: usize, i: usize, out: *mut u32, out_length: usize);
     fn measured_send(set: usize, i: usize, tables: *const u32, tables_length: usize, x: *mut u32, x_length: usize, n: usize);
     fn measured_recover(set: usize, i: usize, tables: *const u32, tables_length: usize, x: *mut u32, x_length: usize, m: usize);
-    fn measured_source(set: usize, seed: *const u8, seed_length: usize, out: *mut u8, out_length: usize);
 }
 
 /// The tables of root number i of a set.
@@ -31,10 +30,4 @@ pub fn send(set: usize, i: usize, tables: &[u32], x: &mut [u32]) {
 /// `tables` must be those of the inverse of root number i of the set, and x as many residues as its transform has places.
 pub fn recover(set: usize, i: usize, tables: &[u32], x: &mut [u32]) {
     unsafe { measured_recover(set, i, tables.as_ptr(), tables.len(), x.as_mut_ptr(), x.len(), x.len()) }
-}
-
-/// The first bytes of a seed, at most 65,536 of them.
-pub fn source(set: usize, seed: &[u8; 32], out: &mut [u8]) {
-    assert!(out.len() <= 65536);
-    unsafe { measured_source(set, seed.as_ptr(), seed.len(), out.as_mut_ptr(), out.len()) }
 }

@@ -4,7 +4,7 @@ use crate::lent::{same_answer, Lent};
 use crate::random::Random;
 use comparison::arithmetic::{middle_product_call, Lengths};
 use comparison::draws::{self, refusal, Refusal};
-use comparison::parameters::{set, SET_COUNT};
+use comparison::parameters::set;
 use comparison::{sheet, sponge};
 
 /// A length of a sponge's slice; seldom at the limit of 65,536 or above.
@@ -84,7 +84,7 @@ fn multipliers(random: &mut Random) -> u8 {
 
 fn middle_product(random: &mut Random) -> Vec<u8> {
     let number = random.set();
-    let p = set(number.min(SET_COUNT - 1)).unwrap();
+    let p = set(number.min(12)).unwrap();
     let a = if random.one_in(12) { 4095 + random.below(3) } else { random.below(p.sizes[2]) };
     let results = if random.one_in(4) { 1 } else { random.below(p.sizes[2] / 2) };
     let b = random.length((a + results).saturating_sub(1));
@@ -104,9 +104,9 @@ fn middle_product(random: &mut Random) -> Vec<u8> {
     vec![plain, same_answer(given, &made.product)]
 }
 
-/// An input of a sheet, of set 0 or of an encryption set; seldom of another set, or of a wrong length.
+/// An input of a sheet; seldom of a wrong length.
 fn sheets(random: &mut Random) -> u8 {
-    let number = 12 * random.below(2) + random.below(8);
+    let number = random.below(8);
     let length = random.length(if number == 0 { 14 } else { 97 });
     let mut input = random.bytes(length);
     if number == 0 {

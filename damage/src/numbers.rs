@@ -3,12 +3,12 @@
 use crate::lent::{same_answer, Lent};
 use crate::random::Random;
 use comparison::numbers as other;
-use comparison::parameters::{set, Set, SET_COUNT};
+use comparison::parameters::{set, Set};
 
 /// A set of the calls on numbers; its records for lengths and moduli are those of a set that exists.
 fn some_set(random: &mut Random) -> (usize, Option<Set>, Set) {
     let number = random.set();
-    (number, set(number), set(number.min(SET_COUNT - 1)).unwrap())
+    (number, set(number), set(number.min(12)).unwrap())
 }
 
 /// Seldom puts a number at or over a bound, or 0, at any place.

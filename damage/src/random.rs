@@ -1,7 +1,5 @@
 //! A generator that anyone can make again: from a start x, x ^= x << 13, x ^= x >> 7, x ^= x << 17.
 
-use comparison::parameters::SET_COUNT;
-
 pub struct Random {
     x: u64,
 }
@@ -48,13 +46,13 @@ impl Random {
         (0..length).map(|_| self.below(2 * size as usize + 1) as i32 - size).collect()
     }
 
-    /// A set, or one of the two numbers after the last; an encryption or exchange set more often than not, and seldom a number far above all sets.
+    /// A set from 0 to 14; an encryption or exchange set more often than not, and seldom a number far above all sets.
     pub fn set(&mut self) -> usize {
         match self.below(24) {
-            0 => self.below(SET_COUNT + 2) << 32 | 1 << 48,
-            1 => 256 + self.below(SET_COUNT + 2),
-            2..=8 => self.below(SET_COUNT + 2),
-            _ => 1 + self.below(SET_COUNT - 1),
+            0 => self.below(15) << 32 | 1 << 48,
+            1 => 256 + self.below(15),
+            2..=8 => self.below(15),
+            _ => 1 + self.below(12),
         }
     }
 

@@ -3,8 +3,9 @@
 use crate::lent::{same_answer, Lent};
 use crate::random::Random;
 use comparison::draws::{refusal, Refusal};
-use comparison::parameters::{set, Set, SET_COUNT};
+use comparison::parameters::{set, Set};
 use comparison::scheme as other;
+use std::ops::RangeInclusive;
 use titanium::{ciphertext_bytes, public_key_bytes, secret_key_bytes, work_numbers};
 
 /// What a wrong length is refused with: that of a seed, message, key or shared key, that of a ciphertext, that of a work slice; looked at in this order.
@@ -12,12 +13,12 @@ const SLICE: u8 = 2;
 const CIPHERTEXT: u8 = 9;
 const WORK: u8 = 10;
 
-/// The set, where it is one of the call's scheme and every length is right; `lengths` has for each slice its refusal, the length given and the right one.
-fn checked(exchange: bool, number: usize, lengths: &[(u8, usize, usize)]) -> Result<Set, Refusal> {
+/// The set, where it is one of the scheme's own and every length is right; `lengths` has for each slice its refusal, the length given and the right one.
+fn checked(own: RangeInclusive<usize>, number: usize, lengths: &[(u8, usize, usize)]) -> Result<Set, Refusal> {
     let Some(s) = set(number).filter(|_| number > 0) else {
         return refusal(1, 0);
     };
-    if s.is_exchange() != exchange {
+    if !own.contains(&number) {
         return refusal(8, 0);
     }
     let wrong = |refusal: &u8| lengths.iter().any(|&(with, given, right)| with == *refusal && given != right);
@@ -26,7 +27,7 @@ fn checked(exchange: bool, number: usize, lengths: &[(u8, usize, usize)]) -> Res
 
 /// The lengths of a set that exists.
 fn lengths(number: usize) -> [usize; 4] {
-    let number = number.clamp(1, SET_COUNT - 1);
+    let number = number.clamp(1, 12);
     [public_key_bytes(number), secret_key_bytes(number), ciphertext_bytes(number), work_numbers(number)]
 }
 
@@ -52,15 +53,16 @@ fn damage(random: &mut Random, bytes: &mut Vec<u8>, first: usize, q: u64) {
     bytes.resize(length, 0);
 }
 
-fn key(random: &mut Random, number: usize, exchange: bool) -> (u8, Vec<u8>, Vec<u8>) {
+fn key(random: &mut Random, number: usize, own: RangeInclusive<usize>) -> (u8, Vec<u8>, Vec<u8>) {
     let right = lengths(number);
     let seed_length = random.length(32);
     let seed = random.bytes(seed_length);
     let [pk, sk, w] = [right[0], right[1], right[3]].map(|right| random.length(right));
     let (mut public, mut secret, mut work) = (Lent::new(pk, 7), Lent::new(sk, 7), Lent::new(w, 7));
+    let exchange = own.contains(&12);
     let call = if exchange { titanium::keypair } else { titanium::encryption_keypair };
     let given = call(number, &seed, public.slice(), secret.slice(), work.slice());
-    let passed = checked(exchange, number, &[(SLICE, seed.len(), 32), (SLICE, pk, right[0]), (SLICE, sk, right[1]), (WORK, w, right[3])]);
+    let passed = checked(own, number, &[(SLICE, seed.len(), 32), (SLICE, pk, right[0]), (SLICE, sk, right[1]), (WORK, w, right[3])]);
     let made = passed.as_ref().map_err(|&r| r).and_then(|s| if exchange { other::exchange_key(s, &seed) } else { other::key(s, &seed) });
     public.expect(made.as_ref().map(|keys| keys.0.as_slice()));
     secret.expect(made.as_ref().map(|keys| keys.1.as_slice()));
@@ -78,7 +80,7 @@ fn encrypt(random: &mut Random, number: usize, public: &[u8]) -> (u8, Vec<u8>) {
     let (mut sealed, mut work) = (Lent::new(ct, 7), Lent::new(w, 7));
     let given = titanium::encrypt(number, public, &message, &seed, sealed.slice(), work.slice());
     let slices = [(SLICE, public.len(), right[0]), (SLICE, message.len(), 32), (SLICE, seed.len(), 32)];
-    let passed = checked(false, number, &[&slices[..], &[(CIPHERTEXT, ct, right[2]), (WORK, w, right[3])]].concat());
+    let passed = checked(1..=6, number, &[&slices[..], &[(CIPHERTEXT, ct, right[2]), (WORK, w, right[3])]].concat());
     let made = passed.as_ref().map_err(|&r| r).and_then(|s| other::encrypt(s, public, &message, &seed));
     sealed.expect(made.as_ref().map(|bytes| bytes.as_slice()));
     expect_work(&work, w, &passed);
@@ -93,7 +95,7 @@ fn encapsulate(random: &mut Random, number: usize, public: &[u8]) -> (u8, Vec<u8
     let (mut sealed, mut shared, mut work) = (Lent::new(ct, 7), Lent::new(ss, 7), Lent::new(w, 7));
     let given = titanium::encapsulate(number, public, &message, sealed.slice(), shared.slice(), work.slice());
     let slices = [(SLICE, public.len(), right[0]), (SLICE, message.len(), 32), (SLICE, ss, 32)];
-    let passed = checked(true, number, &[&slices[..], &[(CIPHERTEXT, ct, right[2]), (WORK, w, right[3])]].concat());
+    let passed = checked(7..=12, number, &[&slices[..], &[(CIPHERTEXT, ct, right[2]), (WORK, w, right[3])]].concat());
     let made = passed.as_ref().map_err(|&r| r).and_then(|s| other::encapsulate(s, public, &message));
     sealed.expect(made.as_ref().map(|pair| pair.0.as_slice()));
     shared.expect(made.as_ref().map(|pair| pair.1.as_slice()));
@@ -101,13 +103,14 @@ fn encapsulate(random: &mut Random, number: usize, public: &[u8]) -> (u8, Vec<u8
     (same_answer(given, &made), made.map_or_else(|_| random.bytes(right[2]), |pair| pair.0))
 }
 
-fn open(random: &mut Random, number: usize, exchange: bool, secret: &[u8], sealed: &[u8]) -> u8 {
+fn open(random: &mut Random, number: usize, own: RangeInclusive<usize>, secret: &[u8], sealed: &[u8]) -> u8 {
     let right = lengths(number);
     let [out, w] = [32, right[3]].map(|right| random.length(right));
     let (mut given_bytes, mut work) = (Lent::new(out, 7), Lent::new(w, 7));
+    let exchange = own.contains(&12);
     let call = if exchange { titanium::decapsulate } else { titanium::decrypt };
     let given = call(number, secret, sealed, given_bytes.slice(), work.slice());
-    let passed = checked(exchange, number, &[(SLICE, secret.len(), right[1]), (CIPHERTEXT, sealed.len(), right[2]), (SLICE, out, 32), (WORK, w, right[3])]);
+    let passed = checked(own, number, &[(SLICE, secret.len(), right[1]), (CIPHERTEXT, sealed.len(), right[2]), (SLICE, out, 32), (WORK, w, right[3])]);
     let model = if exchange { other::decapsulate } else { other::decrypt };
     let made = passed.as_ref().map_err(|&r| r).and_then(|s| model(s, secret, sealed));
     given_bytes.expect(made.as_ref().map(|bytes| bytes.as_slice()));
@@ -138,7 +141,7 @@ fn seal_and_read(random: &mut Random, number: usize) -> u8 {
     );
     let inputs = [(SLICE, seed.len(), 32), (SLICE, message.len(), 32), (SLICE, sealing.len(), 32)];
     let outputs = [(SLICE, pk, right[0]), (SLICE, sk, right[1]), (CIPHERTEXT, ct, right[2]), (SLICE, out, 32), (WORK, w, right[3])];
-    let passed = checked(false, number, &[&inputs[..], &outputs[..]].concat());
+    let passed = checked(1..=6, number, &[&inputs[..], &outputs[..]].concat());
     let made = passed.as_ref().map_err(|&r| r).and_then(|s| {
         let (public, secret) = other::key(s, &seed)?;
         let sealed = other::encrypt(s, &public, &message, &sealing)?;
@@ -175,7 +178,7 @@ fn share_a_key(random: &mut Random, number: usize) -> u8 {
     );
     let inputs = [(SLICE, seed.len(), 32), (SLICE, message.len(), 32), (SLICE, one, 32), (SLICE, two, 32)];
     let outputs = [(SLICE, pk, right[0]), (SLICE, sk, right[1]), (CIPHERTEXT, ct, right[2]), (WORK, w, right[3])];
-    let passed = checked(true, number, &[&inputs[..], &outputs[..]].concat());
+    let passed = checked(7..=12, number, &[&inputs[..], &outputs[..]].concat());
     let made = passed.as_ref().map_err(|&r| r).and_then(|s| {
         let (public, secret) = other::exchange_key(s, &seed)?;
         let (sealed, sent) = other::encapsulate(s, &public, &message)?;
@@ -189,16 +192,16 @@ fn share_a_key(random: &mut Random, number: usize) -> u8 {
     same_answer(given, &made)
 }
 
-/// Key, sealing and reading of one scheme, seldom the other than the set's, each with what the call before made, seldom damaged; then all three in one call.
+/// Key, sealing and reading of one scheme, each with what the call before made, seldom damaged; then all three in one call.
 pub fn round(random: &mut Random) -> Vec<u8> {
     let number = random.set();
-    let nearest = set(number.min(SET_COUNT - 1)).unwrap();
-    let (q, exchange) = (nearest.q, nearest.is_exchange() != random.one_in(8));
-    let (first, mut public, mut secret) = key(random, number, exchange);
+    let own = if random.one_in(8) == (number > 6) { 1..=6 } else { 7..=12 };
+    let q = set(number.min(12)).unwrap().q;
+    let (first, mut public, mut secret) = key(random, number, own.clone());
     damage(random, &mut public, 32, q);
-    let (second, mut sealed) = if exchange { encapsulate(random, number, &public) } else { encrypt(random, number, &public) };
+    let (second, mut sealed) = if own.contains(&12) { encapsulate(random, number, &public) } else { encrypt(random, number, &public) };
     damage(random, &mut sealed, 0, q);
     damage(random, &mut secret, 64, q);
-    let whole = if exchange { share_a_key(random, number) } else { seal_and_read(random, number) };
-    vec![first, second, open(random, number, exchange, &secret, &sealed), whole]
+    let whole = if own.contains(&12) { share_a_key(random, number) } else { seal_and_read(random, number) };
+    vec![first, second, open(random, number, own, &secret, &sealed), whole]
 }

@@ -166,7 +166,7 @@ pub fn middle_product_call(set: Option<Set>, a: &[u32], b: &[u32], lengths: Leng
     }
 }
 
-/// 003's Round on the centred residue, for sets 1 to 24; 01's formula for set 0.
+/// 003's Round on the centred residue, for sets 1 to 12; 01's formula for set 0.
 pub fn bit(s: &Set, w: u32) -> u32 {
     let (w, h) = (w as u64, s.half());
     let one = if s.number == 0 { (2 * w + h) / (2 * h) % 2 == 1 } else { h <= 2 * w && 2 * w <= 3 * h };
@@ -176,7 +176,7 @@ pub fn bit(s: &Set, w: u32) -> u32 {
 #[cfg(test)]
 mod tests {
     use super::*;
-    use crate::parameters::{set, SET_COUNT};
+    use crate::parameters::set;
 
     /// The transform by its written-out sum: place row * r + c is the sum of x_j times the root to the power j * (r + rows * c).
     fn written_out(q: u64, w: u64, size: usize, row: usize, x: &[u32]) -> Vec<u32> {
@@ -210,7 +210,7 @@ mod tests {
     /// What one root sends, the transform with the other, divided by the size, recovers.
     #[test]
     fn transforms_are_undone() {
-        for s in (0..SET_COUNT).map(|number| set(number).unwrap()) {
+        for s in (0..13).map(|number| set(number).unwrap()) {
             for (i, &size) in s.sizes.iter().enumerate() {
                 let x: Vec<u32> = (0..size as u64).map(|j| (j * j % s.q) as u32).collect();
                 let (forward, inverse) = (Transform::new(&s, i, false), Transform::new(&s, i, true));

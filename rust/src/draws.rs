@@ -1,7 +1,6 @@
 //! The byte source and the three samplers of 003 (algorithms 4 to 10).
 
-use crate::aes::{Keys, BLOCK};
-use crate::parameters::{ByteSource, Set};
+use crate::parameters::Set;
 use crate::sponge::kmacxof256;
 
 /// A refusal: its number and its place.
@@ -15,60 +14,32 @@ pub fn refusal<T>(number: u8, place: usize) -> Result<T, Refusal> {
     Err(Refusal { number, place })
 }
 
-/// What a seed is made into, once for all bytes that are drawn from it.
-enum Seeded {
-    Kmacxof256(Vec<u8>),
-    Aes256(Keys),
-}
-
-/// The pseudorandom generator of a set: a seed and a counter.
+/// The pseudorandom generator: a seed and a counter that rises at each call.
 pub struct Source {
-    seeded: Seeded,
+    seed: Vec<u8>,
     counter: u32,
 }
 
 impl Source {
-    pub fn new(s: &Set, seed: &[u8]) -> Self {
-        Source::at(s, seed, 0)
+    pub fn new(seed: &[u8]) -> Self {
+        Source::at(seed, 0)
     }
 
     /// A source that goes on from a counter.
-    pub fn at(s: &Set, seed: &[u8], counter: u32) -> Self {
-        let seeded = match s.source {
-            ByteSource::Kmacxof256 => Seeded::Kmacxof256(seed.to_vec()),
-            ByteSource::Aes256 => Seeded::Aes256(Keys::new(seed.try_into().expect("a seed of 32 bytes"))),
-        };
-        Source { seeded, counter }
+    pub fn at(seed: &[u8], counter: u32) -> Self {
+        Source { seed: seed.to_vec(), counter }
     }
 
     pub fn counter(&self) -> u32 {
         self.counter
     }
 
-    /// The next bytes: KMACXOF256 of the counter, which rises once (algorithm 5), or AES-256 of the counter for each block (algorithm 45).
     pub fn out(&mut self, length: usize) -> Vec<u8> {
         let mut bytes = vec![0; length];
-        match &self.seeded {
-            Seeded::Kmacxof256(seed) => {
-                kmacxof256(seed, &self.counter.to_le_bytes(), b"", &mut bytes);
-                self.counter += 1;
-            }
-            Seeded::Aes256(keys) => {
-                for part in bytes.chunks_mut(BLOCK) {
-                    part.copy_from_slice(&counter_block(keys, self.counter)[..part.len()]);
-                    self.counter += 1;
-                }
-            }
-        }
+        kmacxof256(&self.seed, &self.counter.to_le_bytes(), b"", &mut bytes);
+        self.counter += 1;
         bytes
     }
-}
-
-/// The block of a counter: its four bytes, the least significant first, then zeros.
-fn counter_block(keys: &Keys, counter: u32) -> [u8; BLOCK] {
-    let mut block = [0; BLOCK];
-    block[..4].copy_from_slice(&counter.to_le_bytes());
-    keys.encrypt_block(&block)
 }
 
 /// How many candidates in a row may be set aside for one result, less one.
@@ -170,7 +141,7 @@ pub fn multipliers(set: Option<Set>, bytes: &[u8], first: usize, wanted: usize) 
 /// All multipliers of one sealing, from the sealing seed.
 pub fn sealing_multipliers(s: &Set, seed: &[u8]) -> Vec<i32> {
     let count = s.multipliers();
-    let bytes = Source::new(s, seed).out(count * s.multiplier_bytes() + count / 8);
+    let bytes = Source::new(seed).out(count * s.multiplier_bytes() + count / 8);
     (0..count).map(|position| multiplier_at(s, &bytes, position).unwrap()).collect()
 }
 

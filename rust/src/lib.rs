@@ -1,7 +1,6 @@
 //! Titanium 1.1 written a second time, from the document alone. It never links or copies the proved code: its outputs are what
 //! the proved programs are held to.
 
-pub mod aes;
 pub mod arithmetic;
 pub mod draws;
 pub mod expected;

@@ -1,21 +1,10 @@
 //! The parameter sets, typed in from 003 row by row: tables 2.1 to 2.5 for Titanium-CPA and 2.6 to 2.10 for Titanium-CCA.
 //! The columns are Toy64, Lite96, Std128, Med160, Hi192, Super256.
 
-/// How many sets there are.
-pub const SET_COUNT: usize = 25;
-
-/// Where the byte source of a set takes its bytes from.
-#[derive(Clone, Copy, Debug, PartialEq)]
-pub enum ByteSource {
-    Kmacxof256,
-    Aes256,
-}
-
-/// The numbers of one set, and its byte source.
+/// The numbers of one set.
 #[derive(Clone, Copy, Debug, PartialEq)]
 pub struct Set {
     pub number: usize,
-    pub source: ByteSource,
     pub q: u64,
     pub n: usize,
     pub k: usize,
@@ -102,7 +91,6 @@ const CCA: Family = Family {
 /// Set 0, Bench: small enough to work by hand.
 const BENCH: Set = Set {
     number: 0,
-    source: ByteSource::Kmacxof256,
     q: 17,
     n: 2,
     k: 1,
@@ -120,18 +108,16 @@ const BENCH: Set = Set {
     threshold: 16777215,
 };
 
-/// The numbers of a set from 0 to 24, or none. Sets 13 to 24 are sets 1 to 12 with AES (003, section 3.4.5).
+/// The numbers of a set from 0 to 12, or none.
 pub fn set(number: usize) -> Option<Set> {
     let (family, i) = match number {
         0 => return Some(BENCH),
         1..=6 => (&CPA, number - 1),
         7..=12 => (&CCA, number - 7),
-        13..SET_COUNT => return set(number - 12).map(|s| Set { number, source: ByteSource::Aes256, ..s }),
         _ => return None,
     };
     Some(Set {
         number,
-        source: ByteSource::Kmacxof256,
         q: family.q[i],
         n: family.n[i],
         k: family.k[i],
@@ -173,12 +159,7 @@ impl Set {
 
     /// Whether the set is the key exchange's.
     pub fn is_exchange(&self) -> bool {
-        matches!(self.number, 7..=12 | 19..=24)
-    }
-
-    /// Whether the set is the encryption scheme's.
-    pub fn is_encryption(&self) -> bool {
-        self.number > 0 && !self.is_exchange()
+        (7..=12).contains(&self.number)
     }
 
     pub fn public_key_bytes(&self) -> usize {
@@ -212,12 +193,7 @@ mod tests {
     use super::*;
 
     fn sets() -> impl Iterator<Item = Set> {
-        (0..SET_COUNT).map(|number| set(number).unwrap())
-    }
-
-    /// A figure of sets 1 to 12, and of sets 13 to 24, which have the same.
-    fn twice<T>(figure: impl Fn(Set) -> T) -> [Vec<T>; 2] {
-        [1..13, 13..25].map(|numbers| numbers.map(|number| figure(set(number).unwrap())).collect())
+        (0..13).map(|number| set(number).unwrap())
     }
 
     #[test]
@@ -263,39 +239,31 @@ mod tests {
 
     #[test]
     fn multiplier_counts_are_those_of_tables_2_4_and_2_9() {
-        for counts in twice(|s| s.multipliers()) {
-            assert_eq!(counts, [2560, 3840, 4608, 4608, 5376, 7168, 2560, 4320, 5120, 5120, 6144, 8192]);
-        }
+        let counts: Vec<usize> = sets().skip(1).map(|s| s.multipliers()).collect();
+        assert_eq!(counts, [2560, 3840, 4608, 4608, 5376, 7168, 2560, 4320, 5120, 5120, 6144, 8192]);
     }
 
     #[test]
     fn byte_lengths_are_those_of_tables_3_1_and_3_2() {
-        let rows = [
-            [11552, 32, 2560],
-            [13088, 32, 2976],
-            [14720, 32, 3520],
-            [16448, 32, 4512],
-            [17952, 32, 6016],
-            [23552, 32, 8320],
-            [12192, 12224, 2720],
-            [14720, 14752, 3008],
-            [16352, 16384, 3552],
-            [18272, 18304, 4544],
-            [20512, 20544, 6048],
-            [26912, 26944, 8352],
-        ];
-        for lengths in twice(|s| [s.public_key_bytes(), s.secret_key_bytes(), s.ciphertext_bytes()]) {
-            assert_eq!(lengths, rows);
-        }
-    }
-
-    #[test]
-    fn numbers_of_each_scheme_and_of_aes() {
-        let numbers = |is: fn(&Set) -> bool| -> Vec<usize> { sets().filter(is).map(|s| s.number).collect() };
-        assert_eq!(numbers(Set::is_encryption), [1, 2, 3, 4, 5, 6, 13, 14, 15, 16, 17, 18]);
-        assert_eq!(numbers(Set::is_exchange), [7, 8, 9, 10, 11, 12, 19, 20, 21, 22, 23, 24]);
-        assert_eq!(numbers(|s| s.source == ByteSource::Aes256), [13, 14, 15, 16, 17, 18, 19, 20, 21, 22, 23, 24]);
-        assert_eq!(set(25), None);
+        let lengths: Vec<[usize; 3]> =
+            sets().skip(1).map(|s| [s.public_key_bytes(), s.secret_key_bytes(), s.ciphertext_bytes()]).collect();
+        assert_eq!(
+            lengths,
+            [
+                [11552, 32, 2560],
+                [13088, 32, 2976],
+                [14720, 32, 3520],
+                [16448, 32, 4512],
+                [17952, 32, 6016],
+                [23552, 32, 8320],
+                [12192, 12224, 2720],
+                [14720, 14752, 3008],
+                [16352, 16384, 3552],
+                [18272, 18304, 4544],
+                [20512, 20544, 6048],
+                [26912, 26944, 8352],
+            ]
+        );
     }
 
     #[test]

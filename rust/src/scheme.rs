@@ -8,13 +8,13 @@ use crate::sponge::shake256;
 
 /// The public polynomials of a seed.
 pub fn public_polynomials(s: &Set, seed: &[u8]) -> Result<Vec<Vec<u32>>, Refusal> {
-    let mut source = Source::new(s, seed);
+    let mut source = Source::new(seed);
     (0..s.t).map(|_| residues_from(s, &mut source, s.n, s.public_block)).collect()
 }
 
 /// The secret vector as it is stored, and the source that drew it.
 pub fn secret(s: &Set, seed: &[u8]) -> Result<(Vec<u32>, Source), Refusal> {
-    let mut source = Source::new(s, seed);
+    let mut source = Source::new(seed);
     let stored = residues_from(s, &mut source, s.sizes[2], s.secret_block)?;
     Ok((stored, source))
 }
@@ -41,7 +41,7 @@ fn unplaced<T>(drawn: Result<T, Refusal>) -> Result<T, Refusal> {
 
 /// Public key and secret key of the encryption scheme.
 pub fn key(s: &Set, seed: &[u8]) -> Result<(Vec<u8>, Vec<u8>), Refusal> {
-    let mut source = Source::new(s, seed);
+    let mut source = Source::new(seed);
     let (secret_seed, public_seed) = (source.out(32), source.out(32));
     let (stored, mut source) = unplaced(secret(s, &secret_seed))?;
     let polynomials = unplaced(public_polynomials(s, &public_seed))?;
@@ -130,7 +130,7 @@ fn expand(m: &[u8]) -> ([u8; 32], [u8; 32]) {
 }
 
 pub fn exchange_key(s: &Set, seed: &[u8]) -> Result<(Vec<u8>, Vec<u8>), Refusal> {
-    let bytes = Source::new(s, seed).out(64);
+    let bytes = Source::new(seed).out(64);
     let (public, _) = key(s, &bytes[..32])?;
     let secret = [seed, &public].concat();
     Ok((public, secret))
@@ -148,8 +148,8 @@ pub fn decapsulate(s: &Set, secret_key: &[u8], ciphertext: &[u8]) -> Result<Vec<
     if public_numbers(s, public_key).iter().any(|&x| x as u64 >= s.q) {
         return refusal(3, 0);
     }
-    let bytes = Source::new(s, seed).out(64);
-    let secret_seed = Source::new(s, &bytes[..32]).out(32);
+    let bytes = Source::new(seed).out(64);
+    let secret_seed = Source::new(&bytes[..32]).out(32);
     let end = ciphertext.len() - 32;
     let (c1, c2) = ciphertext_numbers(s, &ciphertext[..end]);
     let c1: Vec<u32> = c1.iter().map(|&x| (x as u64 % s.q) as u32).collect();

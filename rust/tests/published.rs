@@ -1,6 +1,5 @@
-//! The comparison against the published samples of FIPS 202 and SP 800-185, vectors/sponge.txt, and of FIPS 197, vectors/aes.txt.
+//! The comparison against the published samples of FIPS 202 and SP 800-185, vectors/sponge.txt.
 
-use comparison::aes::Keys;
 use comparison::sponge::{kmac256, kmacxof256, shake256};
 use std::collections::HashMap;
 
@@ -52,12 +51,4 @@ fn shake256_examples_of_fips_202() {
         assert_eq!(out[480..], bytes(known["last_32_of_512"]), "{title}");
     }
     assert_eq!(samples.len(), 2);
-}
-
-#[test]
-fn aes256_example_of_fips_197() {
-    let known: Values = include_str!("../vectors/aes.txt").lines().filter_map(|line| line.split_once(' ')).collect();
-    let keys = Keys::new(&bytes(known["aes256_key"]).try_into().unwrap());
-    let block = keys.encrypt_block(&bytes(known["aes256_plaintext"]).try_into().unwrap());
-    assert_eq!(block.to_vec(), bytes(known["aes256_ciphertext"]));
 }

@@ -1,4 +1,4 @@
-// The encryption scheme as functions for callers in C (include/titanium.h).
+// The encryption scheme, sets 1 to 6, as functions for callers in C (include/titanium.h).
 ghost use Rattle.std.specs.Prelude.{◌≡◌, length};
 ghost use Rattle.scheme.specs.Answers.{encryption_key_answer, encryption_public_left, encryption_secret_left, encryption_key_work};
 ghost use Rattle.scheme.specs.Answers.{encrypt_answer, ciphertext_left, encrypt_work, decrypt_answer, message_left, decrypt_work};

@@ -1,4 +1,4 @@
-// The key exchange as functions for callers in C (include/titanium.h).
+// The key exchange, sets 7 to 12, as functions for callers in C (include/titanium.h).
 ghost use Rattle.std.specs.Prelude.{◌≡◌, length};
 ghost use Rattle.scheme.specs.Answers.{exchange_key_answer, exchange_public_left, exchange_secret_left, exchange_key_work};
 ghost use Rattle.scheme.specs.Answers.{encapsulate_answer, encapsulated_left, shared_key_left, encapsulate_work};

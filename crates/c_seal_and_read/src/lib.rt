@@ -6,7 +6,7 @@ ghost use Rattle.c_answer.specs.Coded.{coded};
 
 use c_answer::code;
 
-// The keys of a seed, the ciphertext of a message, and the message read from it, for the encryption sets.
+// The keys of a seed, the ciphertext of a message, and the message read from it, for sets 1 to 6.
 #[unsafe(no_mangle)]
 pub extern "C" fn titanium_seal_and_read(
     set: usize,

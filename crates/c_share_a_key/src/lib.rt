@@ -6,7 +6,7 @@ ghost use Rattle.c_answer.specs.Coded.{coded};
 
 use c_answer::code;
 
-// The keys of a seed, the ciphertext and the shared key of a message, and the shared key that decapsulation gives, for the exchange sets.
+// The keys of a seed, the ciphertext and the shared key of a message, and the shared key that decapsulation gives, for sets 7 to 12.
 #[unsafe(no_mangle)]
 pub extern "C" fn titanium_share_a_key(
     set: usize,

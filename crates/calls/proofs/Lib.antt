@@ -4,4 +4,3 @@ pub mod Region
 pub mod Filled
 pub mod Written
 pub mod Parts
-pub mod Blocks

@@ -1,5 +1,5 @@
-// What the open calls of every layer share: the answer, the check of a slice of numbers, the smaller of two numbers, and functions on a region of a slice.
-ghost use Rattle.std.specs.Prelude.{◌≡◌, ◌+◌, ◌≤◌, min, length, replicate};
+// What the open calls of every layer share: the answer, the check of a slice of numbers, and the functions on a region of a lent slice.
+ghost use Rattle.std.specs.Prelude.{◌≡◌, ◌+◌, ◌≤◌, length, replicate};
 ghost use Rattle.calls.specs.Checks.{passing, below};
 ghost use Rattle.calls.specs.Region.{region, over};
 
@@ -22,13 +22,6 @@ pub fn first_at_least(xs: &[u32], limit: u32) -> usize
         i += 1;
     }
     i
-}
-
-// The smaller of two numbers.
-pub fn smaller(a: usize, b: usize) -> usize
-    ensures { result ≡ min a b }
-{
-    if a < b { a } else { b }
 }
 
 // Sets the `n` numbers from `at` on to zero.

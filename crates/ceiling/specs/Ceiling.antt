@@ -3,7 +3,7 @@
 use Rattle.std.specs.Prelude.{◌≡◌, refl, [], ◌∷◌, map, ℕ, ◌+◌, ◌-◌, ◌*◌, ◌^◌}
 use Rattle.maths.specs.Sum.{sum}
 use Rattle.sets.specs.declared.Parameters.{Parameters}
-use Rattle.sets.specs.Table.{none, with_aes_of, table, set_of}
+use Rattle.sets.specs.Table.{none, table, set_of}
 use Rattle.sets.specs.Derived.{multiplier_count_of, multiplier_bits_of, multiplier_bound_of}
 
 -- the products' part: η times the sum of B/2 over every multiplier position of one result, each with its own B
@@ -32,8 +32,3 @@ ceiling_example₂ = refl
 ceiling_example₃ : map (λ set. ceiling (set_of set)) (1 ∷ 2 ∷ 3 ∷ 4 ∷ 5 ∷ 6 ∷ []) ≡ 1860607 ∷ 792063 ∷ 851455 ∷ 2766847 ∷ 7548927 ∷ 10747903 ∷ []
 unfolding ceiling most_products_of most_dropped_of sum multiplier_count_of multiplier_bits_of multiplier_bound_of none table set_of
 ceiling_example₃ = refl
-
--- an AES variant has the ceiling of its set
-ceiling_aes : (p : Parameters) → ceiling (with_aes_of p) ≡ ceiling p
-unfolding ceiling most_products_of most_dropped_of multiplier_count_of multiplier_bits_of multiplier_bound_of
-ceiling_aes p = refl

@@ -1,4 +1,4 @@
--- The noise of what is handed in is within the ceiling: one theorem for every set and everything that fits (02, No. 5).
+-- The noise of what is handed in is within the ceiling: one theorem for every set from 0 to 12 and everything that fits (02, No. 5).
 -- Assumes nothing.
 use mathlib.Core.Path.{◌≡◌}
 use mathlib.Core.List.{List}

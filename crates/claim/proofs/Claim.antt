@@ -1,4 +1,4 @@
--- Demand 3: one theorem for every set and everything that is handed in and fits.
+-- Demand 3: one theorem for every set from 0 to 12 and everything that is handed in and fits.
 -- Assumes nothing.
 use mathlib.Core.Path.{◌≡◌}
 use Prim.Native.Nat.{ℕ}

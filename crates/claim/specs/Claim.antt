@@ -1,4 +1,4 @@
--- Demand 3, one claim for every set (01, What demand 3 speaks of): what is handed in, what key, sealing and reading answer and give on it
+-- Demand 3, one claim for every set from 0 to 12 (01, What demand 3 speaks of): what is handed in, what key, sealing and reading answer and give on it
 -- one after the other, and what holds of the bits read.
 -- Assumes nothing.
 use Rattle.std.specs.Prelude.{◌≡◌, true, List, ℕ, ◌+◌, ◌*◌, ◌<◌, ℤ, nat_abs, length}

@@ -1,4 +1,4 @@
-// Decryption of Titanium-CPA, for sets 1 to 24 (003, algorithm 3, worked as in algorithm 42).
+// Decryption of Titanium-CPA, for sets 1 to 12 (003, algorithm 3, worked as in algorithm 42).
 ghost use Rattle.std.specs.Prelude.{◌≡◌, ◌+◌, ◌*◌, ◌^◌, ◌≤◌, ◌<◌, length, take};
 ghost use Rattle.calls.specs.Outcome.{outcome, leaves};
 ghost use Rattle.maths.specs.Vector.{AllBelow};

@@ -1,4 +1,4 @@
--- Small numbers: errors and multipliers (003, section 2.2.3, algorithms 9 and 10; 01, Draws). An error of sets 1 to 24 takes one byte, since η is 4.
+-- Small numbers: errors and multipliers (003, section 2.2.3, algorithms 9 and 10; 01, Draws). An error of sets 1 to 12 takes one byte, since η is 4.
 -- Assumes nothing.
 use Rattle.std.specs.Prelude.{◌≡◌, refl, cond, List, [], ◌∷◌, ℕ, zero, suc, ◌+◌, ◌*◌, ◌/◌, ◌%◌, ◌^◌, eqb, ℤ, pos, negsuc, neg_ℤ, ◌-ℤ◌, get_or}
 use Rattle.calls.specs.Region.{region}

@@ -42,7 +42,7 @@ at_each (p ∷ ps) [] y e i h = absurd (false≢true e.0)
 at_each (p ∷ ps) (x ∷ xs) y e zero h = reached p.q x (all_of_each (tests p.q x) e.0)
 at_each (p ∷ ps) (x ∷ xs) y e (suc i) h = at_each ps xs y e.1 i (le_of_suc-le-suc h)
 
--- for every set the step gives q or more at its input
+-- for every set from 0 to 12 the step gives q or more at its input
 pub reaches_modulus : (set : ℕ) → IsSet set → ReachesModulus (set_of set).q (input_of set)
 unfolding set_of table input_of
 reaches_modulus set h = at_each table inputs _ (all_of_each (tested table inputs) table_passed) set h

@@ -1,6 +1,6 @@
 -- For each set an input at which the smallest reduction step gives q or more (02, No. 4): a number below 2 · q and a residue, as a butterfly may hand it both.
 -- Assumes nothing.
-use Rattle.std.specs.Prelude.{List, [], ◌∷◌, ◌++◌, ℕ, ◌*◌, ◌≤◌, ◌<◌, get_or}
+use Rattle.std.specs.Prelude.{List, [], ◌∷◌, ℕ, ◌*◌, ◌≤◌, ◌<◌, get_or}
 use Rattle.montgomery.specs.Scaled.{lazy}
 
 -- a number and a multiplier, whose product is reduced
@@ -17,9 +17,10 @@ pub record ReachesModulus (q : ℕ) (x : Input) : Type 0 where
 abbrev input : ℕ → ℕ → Input
 input a w = record { number = a; multiplier = w }
 
--- one input for each set from 1 to 12
-abbrev titanium_inputs : List Input
-titanium_inputs =
+-- one input for each set, set 0 first
+unfoldable pub inputs : List Input
+inputs =
+    input 17 1 ∷
     input 481050 240612 ∷
     input 168624 84396 ∷
     input 171663 85966 ∷
@@ -33,10 +34,6 @@ titanium_inputs =
     input 1566465 783354 ∷
     input 2395835 1198061 ∷
     []
-
--- one input for each set, set 0 first; an AES variant has the modulus of its set
-unfoldable pub inputs : List Input
-inputs = input 17 1 ∷ (titanium_inputs ++ titanium_inputs)
 
 -- the input of a set
 unfoldable pub input_of : ℕ → Input

@@ -30,7 +30,7 @@ refused_both new old e f = (e ∙ sym f, sym (leaves_refused new old f))
 pub accepted_both : {A : Type 0} {o : Outcome} {now new : List A} (old : List A) → o ≡ accepted → now ≡ new → (accepted ≡ o) × (now ≡ leaves o new old)
 accepted_both {new = new} old e f = (sym e, f ∙ sym (leaves_accepted new old e))
 
--- the set is 1 to 24, and no more results are wanted than may be
+-- the set is 1 to 12, and no more results are wanted than may be
 pub record Shaped (set wanted : ℕ) : Type 0 where
   pub some : 1 ≤ set
   pub most : IsSet set

@@ -11,7 +11,7 @@ use Rattle.draws.specs.Uniform.{candidates, verdict, later, find, put, continued
 use Rattle.draws.specs.Small.{ones, error_of_value, error_at, multiplier_of_value, sign_bit, multiplier_at_of, signs_at_of}
 use Rattle.draws.specs.Calls.{drawn_answer, in_turn, lent, lent_results_of}
 
--- the first checks of each draw: 1 when the set is not 1 to 24, 2 when more than 4,096 results are wanted. The place of 2 is 0: it is
+-- the first checks of each draw: 1 when the set is not 1 to 12, 2 when more than 4,096 results are wanted. The place of 2 is 0: it is
 -- found before a result is begun, so no result is at fault
 unfoldable pub refuse_shape : ℕ → ℕ → Outcome → Outcome
 refuse_shape set wanted rest = refuse (ltb set 1) 1 0 (refuse (no_set set) 1 0 (refuse (ltb 4096 wanted) 2 0 rest))
@@ -51,7 +51,7 @@ multipliers_answer set bytes first wanted =
 unfoldable pub multipliers_left : ℕ → List ℕ → ℕ → List ℤ → List ℤ
 multipliers_left set bytes first out = leaves (multipliers_answer set bytes first (length out)) (in_turn (multiplier_at_of (set_of set) bytes) first (length out)) out
 
-residues_answer_example : map (λ set. residues_answer set [] 0) (0 ∷ 1 ∷ 24 ∷ 25 ∷ []) ≡ refused 1 0 ∷ accepted ∷ accepted ∷ refused 1 0 ∷ []
+residues_answer_example : map (λ set. residues_answer set [] 0) (0 ∷ 1 ∷ 12 ∷ 13 ∷ []) ≡ refused 1 0 ∷ accepted ∷ accepted ∷ refused 1 0 ∷ []
 unfolding refuse_shape residues_answer drawn_answer residues_drawn accept
 residues_answer_example = refl
 

@@ -21,7 +21,7 @@ number_kept z fits = to_z-of_z fits
 
 -- so is an entry of a slice
 pub entry_kept : (z : ℤ) → mag z < 2 ^ hbits w64 → stored z ≡ z
-entry_kept z h = to_z-of_z (record { sfits = h })
+entry_kept z h = to_z-of_z {w = w64} (record { sfits = h })
 
 -- what a test found of the word holds of the number
 pub stored_sign : (z : ℤ) → SFits w64 z → {b : Bool} → lt_z (stored z) (pos 0) ≡ b → lt_z z (pos 0) ≡ b

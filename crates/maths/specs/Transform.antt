@@ -17,7 +17,7 @@ transform q D w xs = tabulate D (λ i. transform_at D w (at xs) i % q)
 unfoldable pub scaled_transform : ℕ → ℕ → ℕ → ℕ → List ℕ → List ℕ
 scaled_transform q D w e xs = tabulate D (λ i. e * transform_at D w (at xs) i % q)
 
--- the order of 003: place ρ · r + c of a stored vector of size δ · ρ is value r + δ · c; ρ is 256 in sets 1 to 24, and 1, which changes nothing, in set 0
+-- the order of 003: place ρ · r + c of a stored vector of size δ · ρ is value r + δ · c; ρ is 256 in sets 1 to 12, and 1, which changes nothing, in set 0
 unfoldable pub perm : ℕ → ℕ → List ℕ → List ℕ
 perm ρ δ xs = tabulate (δ * ρ) (λ i. at xs (i % ρ * δ + i / ρ))
 

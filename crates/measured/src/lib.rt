@@ -1,10 +1,9 @@
-// The transforms and the byte source, which are no open calls, under plain C names, for the benchmark that sets them beside the Rust comparison (bench/).
+// The transforms, which are no open calls, under plain C names, for the benchmark that sets them beside the Rust comparison (bench/).
 ghost use Rattle.std.specs.Prelude.{◌≡◌, ◌≤◌, length, take};
 ghost use Rattle.sets.specs.Table.{set_of, IsSet};
 ghost use Rattle.sets.specs.Derived.{transform_size_of};
 ghost use Rattle.ntt_products.specs.Stored.{sent, recovered};
 ghost use Rattle.ntt_products.specs.Placed.{Placed, table_length_of, RootTables, InverseTables};
-ghost use Rattle.byte_source.specs.Source.{initial, output};
 
 // How many places the tables of transform number i of a set have.
 #[unsafe(no_mangle)]
@@ -50,13 +49,4 @@ pub extern "C" fn measured_recover(set: usize, i: usize, tables: &[u32], x: &mut
     ensures { take m x.new ≡ recovered (set_of set) i m x.old }
 {
     ntt_products::recover_first(sets::parameters_of(set), i, tables, x, m);
-}
-
-// The first output of a seed.
-#[unsafe(no_mangle)]
-pub extern "C" fn measured_source(set: usize, seed: &[u8], out: &mut [u8])
-    requires { IsSet set × (length seed.now ≡ 32) × (length out.old ≤ 65536) }
-    ensures { out.new ≡ (output (set_of set) (initial seed.now) (length out.old)).bytes }
-{
-    byte_source::source_bytes(sets::parameters_of(set), seed, 0, out);
 }

@@ -1,4 +1,4 @@
--- What the transforms ask holds for every set and each of its three sizes, with the root and with its inverse.
+-- What the transforms ask holds for every set from 0 to 12 and each of its three sizes, with the root and with its inverse.
 -- Assumes nothing.
 use mathlib.Core.Path.{◌≡◌, refl}
 use mathlib.Core.Logic.{◌⊎◌, inl, inr}

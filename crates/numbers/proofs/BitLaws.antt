@@ -1,4 +1,4 @@
--- The bit that a set reads: 01's formula for set 0, and for sets 1 to 24 the thresholds, which are 003's Round where h is even.
+-- The bit that a set reads: 01's formula for set 0, and for sets 1 to 12 the thresholds, which are 003's Round where h is even.
 -- Assumes nothing.
 use mathlib.Core.Path.{◌≡◌, ◌∙◌}
 use Prim.Native.Nat.{ℕ, ◌+◌, ◌*◌, ◌/◌, ◌<◌}

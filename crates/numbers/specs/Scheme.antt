@@ -45,7 +45,7 @@ second_part p b r m = tabulate p.d (λ j. (sum_of_middles p (residues p.q r) b j
 unfoldable pub opened : Parameters → List ℕ → List ℕ → List ℕ → ℕ → ℕ
 opened p c1 c2 s j = (at c2 j + (p.q - at (middle_product_of p.q c1 s p.d) j)) % p.q
 
--- the bit that a number is read as: 01's formula for set 0, 003's Round for sets 1 to 24
+-- the bit that a number is read as: 01's formula for set 0, 003's Round for sets 1 to 12
 unfoldable pub rounded_bit_of : ℕ → Parameters → ℕ → ℕ
 rounded_bit_of set p w = cond (eqb set 0) (floor_bit_of (half_modulus_of p) w) (centred_bit (half_modulus_of p) w)
 

@@ -1,3 +1,2 @@
 pub mod Permutation
 pub mod Sponge
-pub mod Aes

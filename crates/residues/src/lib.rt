@@ -86,7 +86,7 @@ fn divided_remainder(x: u64, q: u32) -> u32
     (x % (q as u64)) as u32
 }
 
-// The remainder of a number of 64 bits. The q of sets 1 to 24 are between 2^16 and 2^23: there the time depends on q alone, which is public.
+// The remainder of a number of 64 bits. The q of sets 1 to 12 are between 2^16 and 2^23: there the time depends on q alone, which is public.
 pub fn reduce(x: u64, q: u32) -> u32
     requires { 0 < q }
     ensures { result ≡ x % q }

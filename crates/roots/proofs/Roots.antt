@@ -40,7 +40,7 @@ module _ (set : ℕ) (low : IsSet set) where
   picked false true = root_of_order _ _ _ kept.prime kept.divides2 passes.1.0
   picked false false = root_of_order _ _ _ kept.prime kept.divides3 passes.1.1.0
 
-  -- each root of a set has the order of its transform size
+  -- each root of a set from 0 to 12 has the order of its transform size
   root : (i : ℕ) → RootOfOrder (set_of set).q (transform_size_of (set_of set) i) (transform_root (set_of set) i)
   unfolding transform_size_of transform_root
   root i = picked (eqb i 1) (eqb i 2)

@@ -1,8 +1,7 @@
-// Runs a script of the bytes layer: SHAKE256 and KMAC, the draws over lent bytes, the draws from a seed, the byte source and AES-256. Two stores hold the
-// bytes that the calls are given and those that the hashes write.
+// Runs a script of the bytes layer: SHAKE256 and KMAC, the draws over lent bytes and the draws from a seed. Two stores hold the bytes that the calls are
+// given and those that the hashes write.
 mod lent;
 mod seeded;
-mod source;
 mod sponges;
 
 // Fills a part of a store, a place and so many bytes: with a pattern, with one byte, or with the random bytes of a group and a slice.
@@ -24,7 +23,6 @@ fn step(line: [usize; 16], bytes: &mut [u8], out: &mut [u8]) {
         6 | 7 | 8 => sponges::step(line, bytes, out),
         9 => lent::residues(line, bytes),
         10 | 11 | 12 => lent::small(line, bytes),
-        17 | 18 => source::step(line, bytes),
         _ => seeded::step(line, bytes),
     }
 }

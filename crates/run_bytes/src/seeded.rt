@@ -21,11 +21,11 @@ fn within(x: usize, least: usize, most: usize) -> usize
     if most < x { most } else { x }
 }
 
-// The numbers of a set from 1 to 24, with the rules that the draws ask for.
-pub fn parameters(set: usize) -> Parameters
+// The numbers of a set from 1 to 12, with the rules that the draws ask for.
+fn parameters(set: usize) -> Parameters
     ensures { Rules result × ByteRules result × (0 < result.q) }
 {
-    let known = within(set, 1, sets::LAST);
+    let known = within(set, 1, 12);
     sets::parameters_of(known)
 }
 
@@ -52,7 +52,7 @@ fn residues_into(
     wanted: usize,
     out: &mut [u32],
 ) -> Advance
-    requires { (length seed.now ≡ 32) × (length out.old ≡ 10240) }
+    requires { (length seed.now ≤ 65536) × (length out.old ≡ 10240) }
 {
     let count = within(wanted, 1, 10240);
     samplers::residues_from(
@@ -74,7 +74,7 @@ fn multiplier_count(p: Parameters) -> usize
 
 // Draws the errors of one key.
 fn errors_into(set: usize, seed: &[u8], counter: u32, out: &mut [u32])
-    requires { (length seed.now ≡ 32) × (length out.old ≡ 10240) }
+    requires { (length seed.now ≤ 65536) × (length out.old ≡ 10240) }
 {
     let p = parameters(set);
     let count = sets::derived::error_count(p);
@@ -83,7 +83,7 @@ fn errors_into(set: usize, seed: &[u8], counter: u32, out: &mut [u32])
 
 // Draws the multipliers of one sealing.
 fn multipliers_into(set: usize, seed: &[u8], out: &mut [u32])
-    requires { (length seed.now ≡ 32) × (length out.old ≡ 10240) }
+    requires { (length seed.now ≤ 65536) × (length out.old ≡ 10240) }
 {
     let p = parameters(set);
     let count = multiplier_count(p);
@@ -128,7 +128,7 @@ fn two_blocks(line: [usize; 16], bytes: &[u8]) {
 }
 
 // The seed at a place.
-pub fn seed_at(bytes: &[u8], place: usize) -> [u8; 32] {
+fn seed_at(bytes: &[u8], place: usize) -> [u8; 32] {
     let mut seed = [0u8; 32];
     report::repeat(&mut seed, report::part(bytes, place, 32));
     seed

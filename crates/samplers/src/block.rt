@@ -76,7 +76,7 @@ pub fn residues_with_buffers(
     bytes: &mut [u8],
     out: &mut [u32],
 ) -> Advance
-    requires rules { Rules p × (length seed.now ≡ 32) × (384 ≤ length bytes.old) × (length bytes.old ≤ 10158) }
+    requires rules { Rules p × (length seed.now ≤ 65536) × (384 ≤ length bytes.old) × (length bytes.old ≤ 10158) }
     requires out_nonzero { (0 < length out.old) × (first + 10159 * length out.old < 2 ^ 32) }
     ensures answer { onward seed.now result
         ≡ uniform_answer p (state_at seed.now first) (length bytes.old) (length out.old) }
@@ -84,12 +84,11 @@ pub fn residues_with_buffers(
         (uniform p (state_at seed.now first) (length bytes.old) (length out.old)).drawn ≡ taken xs →
         out.new ≡ xs }
 {
-    let keys = byte_source::key_schedule(p, seed);
     let mut counter = first;
     let mut done: usize = 0;
     let mut run: u32 = 0;
     loop {
-        counter = byte_source::keyed_bytes(p, seed, &keys, counter, bytes);
+        counter = byte_source::source_bytes(p, seed, counter, bytes);
         let progress = continue_draw(bytes, p.q, p.zqrej, done, run, out);
         let Progress::Reached(reached, aside) = progress else {
             return Advance::Refused(refusal_of(progress));

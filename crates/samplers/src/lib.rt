@@ -45,7 +45,7 @@ pub fn residues_from(
     first: u32,
     out: &mut [u32],
 ) -> Advance
-    requires rules { Rules p × (length seed.now ≡ 32) × (384 ≤ size) × (size ≤ 10158) }
+    requires rules { Rules p × (length seed.now ≤ 65536) × (384 ≤ size) × (size ≤ 10158) }
     requires out_nonzero { (0 < length out.old) × (first + 10159 * length out.old < 2 ^ 32) }
     ensures answer { onward seed.now result
         ≡ uniform_answer p (state_at seed.now first) size (length out.old) }
@@ -58,7 +58,7 @@ pub fn residues_from(
 
 // Draws all errors of one key, as residues, from the output of a counter.
 pub fn errors_from(p: Parameters, seed: &[u8], counter: u32, out: &mut [u32])
-    requires rules { Rules p × ByteRules p × (length seed.now ≡ 32) × (length out.old ≡ error_count_of p) }
+    requires rules { Rules p × ByteRules p × (length seed.now ≤ 65536) × (length out.old ≡ error_count_of p) }
     requires p_bound { counter + error_draw_bytes_of p + 1 < 2 ^ 32 }
     ensures { out.new ≡ map (residue p.q) (errors_drawn p (state_at seed.now counter)) }
 {
@@ -69,7 +69,7 @@ pub fn errors_from(p: Parameters, seed: &[u8], counter: u32, out: &mut [u32])
 
 // Draws all multipliers of one sealing, as residues, from the first output of a seed.
 pub fn multipliers_from(p: Parameters, seed: &[u8], out: &mut [u32])
-    requires { Rules p × ByteRules p × (length seed.now ≡ 32) × (length out.old ≡ multiplier_count_of p) }
+    requires { Rules p × ByteRules p × (length seed.now ≤ 65536) × (length out.old ≡ multiplier_count_of p) }
     ensures { out.new ≡ map (residue p.q) (multipliers_drawn p seed.now) }
 {
     let size = small::multiplier_draw_bytes(p);

@@ -51,7 +51,7 @@ pub fn errors_with_buffers(
     bytes: &mut [u8],
     out: &mut [u32],
 )
-    requires rules { Rules p × ByteRules p × (length seed.now ≡ 32) × (counter + error_draw_bytes_of p + 1 < 2 ^ 32) }
+    requires rules { Rules p × ByteRules p × (length seed.now ≤ 65536) × (counter + error_draw_bytes_of p + 1 < 2 ^ 32) }
     requires bytes_len { (length bytes.old ≡ error_draw_bytes_of p) × (length out.old ≡ error_count_of p) }
     ensures { out.new ≡ map (residue p.q) (errors_drawn p (state_at seed.now counter)) }
 {
@@ -91,7 +91,7 @@ fn fill_multipliers(p: Parameters, bytes: &[u8], out: &mut [u32])
 
 // All multipliers of one sealing, whose bytes are read into `bytes`.
 pub fn multipliers_with_buffers(p: Parameters, seed: &[u8], bytes: &mut [u8], out: &mut [u32])
-    requires rules { Rules p × ByteRules p × (length seed.now ≡ 32) }
+    requires rules { Rules p × ByteRules p × (length seed.now ≤ 65536) }
     requires bytes_len { (length bytes.old ≡ multiplier_draw_bytes_of p) × (length out.old ≡ multiplier_count_of p) }
     ensures { out.new ≡ map (residue p.q) (multipliers_drawn p seed.now) }
 {

@@ -36,7 +36,7 @@ module _ (isOwn : ℕ → Bool) (set : ℕ) (after : Outcome) where
   unfolding refuse_set
   set_low h = rw (lt-ltb set 1 h)
 
-  -- nor is a number above the last set
+  -- nor is a set above 12
   pub set_high : 1 ≤ set → last_set < set → refuse_set isOwn set after ≡ refused 1 0
   unfolding refuse_set
   set_high some h = rw (le-ltb set 1 some, lt-ltb last_set set h)

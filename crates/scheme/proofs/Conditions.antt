@@ -19,7 +19,7 @@ use Rattle.scheme.specs.Conditions.{Conditions}
 pub listed_conditions : (p : Parameters) → ByteRules p → Listed p → Conditions p
 listed_conditions p bytes known = record { rules = listed_rules p known; bytes = bytes; roots = roots.listed_root p known }
 
--- so sets 1 to 24 do
+-- so sets 1 to 12 do
 pub set_conditions : (set : ℕ) → 1 ≤ set → IsSet set → Conditions (set_of set)
 set_conditions set some low = listed_conditions (set_of set) (byte_rules set some low) (listed_set set low)
 

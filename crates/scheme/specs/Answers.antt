@@ -11,7 +11,7 @@ use Rattle.samplers.specs.Seeded.{secret_drawn, public_drawn}
 use Rattle.scheme.specs.Encryption.{secret_seed, public_seed, public_key, key_seed, key_numbers, ciphertext, cipher_first, decrypted_message}
 use Rattle.scheme.specs.Exchange.{inner_seed, exchange_public_key, exchange_secret_key, encapsulated, shared_key, decapsulated}
 
--- 1 when the set is not 1 to 24, then 8 when it is not one of the scheme called
+-- 1 when the set is not 1 to 12, then 8 when it is not one of the scheme called
 unfoldable pub refuse_set : (ℕ → Bool) → ℕ → Outcome → Outcome
 refuse_set isOwn set after = refuse (ltb set 1) 1 0 (refuse (no_set set) 1 0 (refuse (not (isOwn set)) 8 0 after))
 

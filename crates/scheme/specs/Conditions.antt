@@ -1,4 +1,4 @@
--- What the theorem from the seeds to the bits read needs of the numbers p of a set; sets 1 to 24 meet it (003, sections 2.1.2, 2.2.2 and 3.2).
+-- What the theorem from the seeds to the bits read needs of the numbers p of a set; sets 1 to 12 meet it (003, sections 2.1.2, 2.2.2 and 3.2).
 -- Assumes nothing.
 use Rattle.std.specs.Prelude.{ℕ}
 use Rattle.maths.specs.Root.{RootOfOrder}

@@ -9,7 +9,7 @@ ghost use Rattle.scheme.specs.Answers.{refuse_set, key_checks, encrypt_checks, d
 use calls::Answer;
 use sets::Parameters;
 
-// Refused with 1 when the set is not 1 to 24, with 8 when it is not one of the scheme with this number.
+// Refused with 1 when the set is not 1 to 12, with 8 when it is not one of the scheme with this number.
 fn set_checked(number: u32, set: usize, p: Parameters) -> Answer
     requires { p ≡ set_of set }
     ensures { outcome result ≡ refuse_set (is_of number) set accepted }

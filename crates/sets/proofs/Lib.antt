@@ -3,6 +3,5 @@ pub mod Rules
 pub mod Lengths
 pub mod Transforms
 pub mod Schemes
-pub mod Variants
 pub mod Counts
 pub mod Served

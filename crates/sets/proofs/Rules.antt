@@ -99,7 +99,7 @@ kept p e = search (leb-true, eqb-true, prime_true)
 kept_bytes : (p : Parameters) → Each (byte_tests p) → ByteRules p
 kept_bytes p e = search (leb-true, eqb-true)
 
--- the test of the whole table: all rules for sets 0 to 24, those of bytes for sets 1 to 24
+-- the test of the whole table: all rules for sets 0 to 12, those of bytes for sets 1 to 12
 table_passed : passed tests table ≡ true
 unfolding passed all_of table is_prime no_divisor_from half_modulus_of multiplier_count_of packed_bytes_of public_key_bytes_of cpa_ciphertext_bytes_of
 table_passed = refl
@@ -108,12 +108,12 @@ table_passed_bytes : passed byte_tests (drop 1 table) ≡ true
 unfolding passed all_of table half_modulus_of multiplier_count_of multiplier_bytes_of multiplier_draw_bytes_of error_draw_bytes_of
 table_passed_bytes = refl
 
--- every set from 0 to 24 keeps the rules
+-- every set from 0 to 12 keeps the rules
 pub rules : (set : ℕ) → IsSet set → Rules (set_of set)
 unfolding set_of table
 rules set h = kept (set_of set) (at_each tests table table_passed set h)
 
--- every set from 1 to 24 keeps the rules of bytes
+-- every set from 1 to 12 keeps the rules of bytes
 pub byte_rules : (set : ℕ) → 1 ≤ set → IsSet set → ByteRules (set_of set)
 unfolding set_of table
 byte_rules zero some h = absurd (not-suc-le-zero some)

@@ -3,14 +3,14 @@
 use mathlib.Core.Path.{◌≡◌, refl, ap, ◌∙◌}
 use mathlib.Core.Bool.{Bool, true, false, cond}
 use mathlib.Core.List.{List, [], ◌∷◌}
-use Prim.Native.Nat.{ℕ, ◌≤◌}
+use Prim.Native.Nat.{ℕ, suc}
 use borrow.Author.Tests.{leb-true, eqb-true}
-use lib.Dec.{leb, eqb}
+use lib.Dec.{ltb, eqb}
 use Rattle.maths.specs.Root.{power_table}
 use Rattle.calls.specs.Checks.{all_of}
 use Rattle.calls.proofs.Checks.{Each}
 use Rattle.sets.specs.declared.Parameters.{Parameters}
-use Rattle.sets.specs.Table.{table, set_of, last_kmac_set, Listed}
+use Rattle.sets.specs.Table.{table, set_of, last_set, IsSet, Listed}
 use Rattle.sets.specs.Derived.{transform_size_of, transform_root, root_powers}
 use Rattle.sets.proofs.Tested.{passed, at_each}
 
@@ -35,9 +35,9 @@ same p by =
     eqb p.w2 by.w2 ∷
     eqb p.w3 by.w3 ∷ []
 
--- the tests of a record: it is served by a set that has tables
+-- the tests of a record: it is served by a set
 abbrev tests : Parameters → List Bool
-tests p = leb p.roots last_kmac_set ∷ same p (set_of p.roots)
+tests p = ltb p.roots (suc last_set) ∷ same p (set_of p.roots)
 
 -- the test of the whole table
 table_served : passed tests table ≡ true
@@ -58,8 +58,8 @@ module _ (p : Parameters) (known : Listed p) where
   unfolding set_of table
   tested = rw known.listed (at_each tests table table_served known.set known.is_set)
 
-  -- it is a set that has tables
-  pub roots_set : p.roots ≤ last_kmac_set
+  -- it is a set
+  pub roots_set : IsSet p.roots
   roots_set = leb-true _ _ tested.0
 
   served : Served p (set_of p.roots)

@@ -1,10 +1,9 @@
 -- Numbers that follow from a set's parameters: 003, sections 2.2.2 (N_dec), 2.2.3 (algorithms 9 and 10) and 3.1 (byte lengths).
 -- Assumes nothing.
-use Rattle.std.specs.Prelude.{◌≡◌, refl, Bool, cond, ◌&&◌, ◌||◌, List, [], ◌∷◌, ◌++◌, map, ℕ, ◌+◌, ◌-◌, ◌*◌, ◌/◌, ◌^◌, max, leb, ltb, eqb}
+use Rattle.std.specs.Prelude.{◌≡◌, refl, Bool, cond, List, [], ◌∷◌, map, ℕ, ◌+◌, ◌-◌, ◌*◌, ◌/◌, ◌^◌, max, ltb, eqb}
 use Rattle.maths.specs.Root.{power_table}
-use Rattle.maths.specs.Vector.{tabulate}
 use Rattle.sets.specs.declared.Parameters.{Parameters}
-use Rattle.sets.specs.Table.{none, table, set_of, last_set, uses_aes}
+use Rattle.sets.specs.Table.{none, table, set_of}
 
 -- the half modulus h (01)
 unfoldable pub half_modulus_of : Parameters → ℕ
@@ -90,14 +89,6 @@ secret_key_bytes_of set = secret_bytes (set_of set)
 abbrev pub ciphertext_bytes_of : ℕ → ℕ
 ciphertext_bytes_of set = sealed_bytes (set_of set)
 
--- the numbers of all sets, and one that is none
-abbrev pub set_numbers : List ℕ
-set_numbers = tabulate (last_set + 2) (λ i. i)
-
--- is a number from the first to the last
-abbrev pub between : (first last : ℕ) → ℕ → Bool
-between first last number = leb first number && leb number last
-
 -- the byte lengths of a set: public key, secret key, ciphertext
 lengths : ℕ → List ℕ
 lengths set = public_key_bytes_of (set_of set) ∷ secret_key_bytes_of set ∷ ciphertext_bytes_of set ∷ []
@@ -119,21 +110,9 @@ published =
     (26912 ∷ 26944 ∷ 8352 ∷ []) ∷
     []
 
--- sets 1 to 12 have them, and so have sets 13 to 24
-lengths_published : map lengths (tabulate 24 (λ i. 1 + i)) ≡ published ++ published
-unfolding tabulate table set_of packed_bytes_of public_key_bytes_of cpa_ciphertext_bytes_of secret_bytes sealed_bytes lengths published
+lengths_published : map lengths (1 ∷ 2 ∷ 3 ∷ 4 ∷ 5 ∷ 6 ∷ 7 ∷ 8 ∷ 9 ∷ 10 ∷ 11 ∷ 12 ∷ []) ≡ published
+unfolding none table set_of packed_bytes_of public_key_bytes_of cpa_ciphertext_bytes_of secret_bytes sealed_bytes lengths published
 lengths_published = refl
-
--- the encryption sets are 1 to 6 and 13 to 18, the exchange sets 7 to 12 and 19 to 24
-schemes_example : (map is_encryption set_numbers ≡ map (λ set. between 1 6 set || between 13 18 set) set_numbers)
-    × (map is_exchange set_numbers ≡ map (λ set. between 7 12 set || between 19 24 set) set_numbers)
-unfolding tabulate none table set_of is_encryption is_exchange
-schemes_example = (refl, refl)
-
--- the sets with the AES byte source are 13 to 24
-sources_example : map (λ set. uses_aes (set_of set)) set_numbers ≡ map (between 13 24) set_numbers
-unfolding tabulate none table set_of
-sources_example = refl
 
 -- set 1 has 2,560 positions, the first 1,488 of them with 7 bits
 multiplier_bits_example : map (multiplier_bits_of (set_of 1)) (1487 ∷ 1488 ∷ []) ≡ 7 ∷ 8 ∷ []

@@ -5,7 +5,7 @@ use Rattle.maths.specs.Prime.{Prime}
 use Rattle.sets.specs.declared.Parameters.{Parameters}
 use Rattle.sets.specs.Derived.{half_modulus_of, multiplier_count_of, multiplier_bytes_of, multiplier_draw_bytes_of, error_draw_bytes_of, public_key_bytes_of, cpa_ciphertext_bytes_of}
 
--- what holds for every set
+-- what holds for sets 0 to 12
 pub record Rules (p : Parameters) : Type 0 where
   -- the modulus is an odd prime below 2^24
   pub prime : Prime p.q
@@ -60,7 +60,7 @@ pub record Rules (p : Parameters) : Type 0 where
   pub most_public_key : public_key_bytes_of p ≤ 26912
   pub most_sealed : cpa_ciphertext_bytes_of p ≤ 8320
 
--- what holds besides for sets 1 to 24, whose keys and ciphertexts are bytes
+-- what holds besides for sets 1 to 12, whose keys and ciphertexts are bytes
 pub record ByteRules (p : Parameters) : Type 0 where
   pub even_half : half_modulus_of p ≡ 2 * (half_modulus_of p / 2)
   pub row_256 : p.row ≡ 256

@@ -1,7 +1,7 @@
 // The parameter sets of Titanium 1.1: sets 1 to 6 are Titanium-CPA, 7 to 12 Titanium-CCA (003, tables 2.1 to 2.10); set 0 is Bench (01, Sources and what is
-// built); sets 13 to 24 are the AES variants of sets 1 to 12 (003, section 3.4.5).
+// built).
 ghost use Rattle.std.specs.Prelude.{◌≡◌};
-ghost use Rattle.sets.specs.Table.{set_of, with_aes_of};
+ghost use Rattle.sets.specs.Table.{set_of};
 
 pub mod derived;
 
@@ -10,8 +10,6 @@ pub mod derived;
 pub struct Parameters {
     // 1 for a set of the encryption scheme, 2 for one of the key exchange, 0 for Bench
     pub scheme: u32,
-    // where the byte source PRG takes its bytes from: 0 KMACXOF256, 1 AES-256
-    pub source: u32,
     // the modulus, an odd prime
     pub q: u32,
     // the length of a public polynomial a_i
@@ -59,24 +57,17 @@ pub struct Parameters {
 }
 
 // The number of the last set.
-pub const LAST: usize = 24;
-
-// The number of the last set whose source is KMACXOF256; an AES variant stands so many places after its set.
-const LAST_KMAC: usize = 12;
+pub const LAST: usize = 12;
 
 // The numbers of the two schemes in a set's record.
 pub const ENCRYPTION: u32 = 1;
 
 pub const EXCHANGE: u32 = 2;
 
-// The number of the AES byte source in a set's record.
-pub const AES: u32 = 1;
-
 const SETS: [Parameters; 13] = [
     // 0: Bench
     Parameters {
         scheme: 0,
-        source: 0,
         q: 17,
         n: 2,
         k: 1,
@@ -103,7 +94,6 @@ const SETS: [Parameters; 13] = [
     // 1: Titanium-CPA Toy64
     Parameters {
         scheme: 1,
-        source: 0,
         q: 240641,
         n: 684,
         k: 255,
@@ -130,7 +120,6 @@ const SETS: [Parameters; 13] = [
     // 2: Titanium-CPA Lite96
     Parameters {
         scheme: 1,
-        source: 0,
         q: 84481,
         n: 800,
         k: 479,
@@ -157,7 +146,6 @@ const SETS: [Parameters; 13] = [
     // 3: Titanium-CPA Std128
     Parameters {
         scheme: 1,
-        source: 0,
         q: 86017,
         n: 1024,
         k: 511,
@@ -184,7 +172,6 @@ const SETS: [Parameters; 13] = [
     // 4: Titanium-CPA Med160
     Parameters {
         scheme: 1,
-        source: 0,
         q: 301057,
         n: 1280,
         k: 511,
@@ -211,7 +198,6 @@ const SETS: [Parameters; 13] = [
     // 5: Titanium-CPA Hi192
     Parameters {
         scheme: 1,
-        source: 0,
         q: 737281,
         n: 1536,
         k: 767,
@@ -238,7 +224,6 @@ const SETS: [Parameters; 13] = [
     // 6: Titanium-CPA Super256
     Parameters {
         scheme: 1,
-        source: 0,
         q: 1198081,
         n: 2048,
         k: 1023,
@@ -265,7 +250,6 @@ const SETS: [Parameters; 13] = [
     // 7: Titanium-CCA Toy64
     Parameters {
         scheme: 2,
-        source: 0,
         q: 471041,
         n: 684,
         k: 255,
@@ -292,7 +276,6 @@ const SETS: [Parameters; 13] = [
     // 8: Titanium-CCA Lite96
     Parameters {
         scheme: 2,
-        source: 0,
         q: 115201,
         n: 800,
         k: 479,
@@ -319,7 +302,6 @@ const SETS: [Parameters; 13] = [
     // 9: Titanium-CCA Std128
     Parameters {
         scheme: 2,
-        source: 0,
         q: 118273,
         n: 1024,
         k: 511,
@@ -346,7 +328,6 @@ const SETS: [Parameters; 13] = [
     // 10: Titanium-CCA Med160
     Parameters {
         scheme: 2,
-        source: 0,
         q: 430081,
         n: 1280,
         k: 511,
@@ -373,7 +354,6 @@ const SETS: [Parameters; 13] = [
     // 11: Titanium-CCA Hi192
     Parameters {
         scheme: 2,
-        source: 0,
         q: 783361,
         n: 1536,
         k: 767,
@@ -400,7 +380,6 @@ const SETS: [Parameters; 13] = [
     // 12: Titanium-CCA Super256
     Parameters {
         scheme: 2,
-        source: 0,
         q: 1198081,
         n: 2048,
         k: 1023,
@@ -429,7 +408,6 @@ const SETS: [Parameters; 13] = [
 // What stands for a number that is none of a set.
 const NONE: Parameters = Parameters {
     scheme: 0,
-    source: 0,
     q: 0,
     n: 0,
     k: 0,
@@ -454,24 +432,12 @@ const NONE: Parameters = Parameters {
     width: 0,
 };
 
-// The AES variant of a set.
-fn with_aes(p: Parameters) -> Parameters
-    ensures { result ≡ with_aes_of p }
-{
-    let mut variant = p;
-    variant.source = AES;
-    variant
-}
-
 // The numbers of a set; all of them are 0 where there is no such set.
 pub fn parameters_of(set: usize) -> Parameters
     ensures { result ≡ set_of set }
 {
     if LAST < set {
         return NONE;
-    }
-    if LAST_KMAC < set {
-        return with_aes(SETS[set - LAST_KMAC]);
     }
     SETS[set]
 }

@@ -1,8 +1,8 @@
 -- The bench sheet of an input (01, The bench sheet; How each call answers: Bench sheet): its answer, and the bytes of its whole text.
 -- Assumes nothing.
-use Rattle.std.specs.Prelude.{◌≡◌, refl, Bool, ◌&&◌, List, [], ◌∷◌, map, ℕ, leb, eqb, replicate}
+use Rattle.std.specs.Prelude.{◌≡◌, refl, Bool, ◌&&◌, List, [], ◌∷◌, ℕ, leb, eqb}
 use Rattle.calls.specs.Outcome.{Outcome, accepted, refused}
-use Rattle.sets.specs.Table.{none, table, set_of}
+use Rattle.sets.specs.Table.{table, set_of}
 use Rattle.sets.specs.Derived.{is_encryption, half_modulus_of}
 use Rattle.ceiling.specs.Ceiling.{ceiling}
 use Rattle.sheet_text.specs.Text.{sheet_text, refused_text}
@@ -35,9 +35,9 @@ sheet_answer_example : sheet_answer [] ≡ refused 2 0
 unfolding sheet_answer input_answer
 sheet_answer_example = refl
 
--- an exchange set, with either byte source, and a number that is no set are refused with 1, though the length is wrong too
-sheet_answer_example₂ : map sheet_answer ((7 ∷ []) ∷ (19 ∷ []) ∷ (25 ∷ []) ∷ []) ≡ replicate 3 (refused 1 0)
-unfolding sheet_answer input_answer set_byte_of has_sheet_of is_encryption none table set_of
+-- a set above 6 is refused with 1, though the length is wrong too
+sheet_answer_example₂ : sheet_answer (7 ∷ []) ≡ refused 1 0
+unfolding sheet_answer input_answer set_byte_of has_sheet_of is_encryption table set_of
 sheet_answer_example₂ = refl
 
 -- an input of set 0 with a byte too few is refused with 2

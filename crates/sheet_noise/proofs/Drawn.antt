@@ -63,7 +63,7 @@ map_residues q zs some =
           ];
     }
 
--- half a set's modulus has two rows or more, so that in sets 1 to 24 it is larger than every multiplier
+-- half a set's modulus has two rows or more, so that in sets 1 to 12 it is larger than every multiplier
 abbrev half_tests : Parameters → List Bool
 half_tests p = leb (2 * p.row) (half_modulus_of p) ∷ []
 

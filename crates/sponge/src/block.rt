@@ -1,7 +1,14 @@
 // Writing into a region of a lent slice of bytes.
-ghost use Rattle.std.specs.Prelude.{◌≡◌, ◌+◌, ◌-◌, ◌<◌, ◌≤◌, length, replicate};
+ghost use Rattle.std.specs.Prelude.{◌≡◌, ◌+◌, ◌-◌, ◌<◌, ◌≤◌, min, length, replicate};
 ghost use Rattle.calls.specs.Region.{over};
 ghost use Rattle.sponge.specs.Sponge.{padding};
+
+// The smaller of two numbers.
+pub fn smaller(a: usize, b: usize) -> usize
+    ensures { result ≡ min a b }
+{
+    if a < b { a } else { b }
+}
 
 // Sets the `n` bytes from `at` on to zero.
 pub fn zero_at(dst: &mut [u8], at: usize, n: usize)

@@ -4,8 +4,9 @@ ghost use Rattle.keccak.specs.Keccak.{keccak_f};
 ghost use Rattle.sponge.specs.Sponge.{mixed};
 ghost use Rattle.sponge.specs.Absorbed.{Ready, Fed};
 
+use crate::block::smaller;
 use crate::lanes::mix;
-use calls::{copy_at, smaller};
+use calls::copy_at;
 
 // One turn of the absorbing phase: a whole block goes into the state.
 pub fn absorb(a: [[u64; 5]; 5], block: &[u8]) -> [[u64; 5]; 5]

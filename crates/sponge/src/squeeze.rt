@@ -4,9 +4,9 @@ ghost use Rattle.keccak.specs.Keccak.{keccak_f};
 ghost use Rattle.sponge.specs.Sponge.{squeezed, sponge};
 ghost use Rattle.sponge.specs.Absorbed.{Ready, Absorbed};
 
-use crate::block::pad_at;
+use crate::block::{pad_at, smaller};
 use crate::lanes::{lane_block, mix};
-use calls::{copy_at, smaller};
+use calls::copy_at;
 
 // Fills `out` from a state whose last permutation is still to be done.
 pub fn squeeze(state: [[u64; 5]; 5], out: &mut [u8])

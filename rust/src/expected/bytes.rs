@@ -3,7 +3,7 @@
 use super::damage::Group;
 use super::report::{answer, byte_sum, hex, number_sum, pattern, signed_sum};
 use super::script::Script;
-use super::{damage_bytes, draws, known_draws, samplers, source, sponge};
+use super::{damage_bytes, draws, known_draws, samplers, sponge};
 use crate::draws::{errors, multipliers, refusal, residues, Refusal};
 use crate::parameters::set;
 use crate::sponge::{kmac256, kmacxof256, shake256};
@@ -163,7 +163,6 @@ pub fn script() -> Script {
     sponge::run(&mut run);
     draws::run(&mut run);
     samplers::run(&mut run);
-    source::run(&mut run);
     damage_bytes::run(&mut run);
     run.script
 }

@@ -2,13 +2,13 @@
 
 use super::report::{answer, byte_sum, changed, hex, number_sum, pattern};
 use super::store::{Command, Store, MESSAGE, OPENED, PUBLIC, SEALED, SEALING, SECRET, SEED};
-use super::{has_aes, numbers_of_sets};
 use crate::draws::{refusal, Refusal};
-use crate::parameters::{set, Set, SET_COUNT};
+use crate::parameters::{set, Set};
 use crate::scheme::{decapsulate, decrypt, encapsulate, encrypt, exchange_key, key};
 
-/// Bytes of a public key, of a secret key and of a ciphertext, numbers of the work slice, modulus; of sets 1 to 12.
-const ROWS: [[usize; 5]; 12] = [
+/// Bytes of a public key, of a secret key and of a ciphertext, numbers of the work slice, modulus; by sets, the first and the last of which are none.
+pub const SETS: [[usize; 5]; 14] = [
+    [11552, 32, 2560, 12022, 17],
     [11552, 32, 2560, 12022, 240641],
     [13088, 32, 2976, 14328, 84481],
     [14720, 32, 3520, 16375, 86017],
@@ -21,16 +21,8 @@ const ROWS: [[usize; 5]; 12] = [
     [18272, 18304, 4544, 18166, 430081],
     [20512, 20544, 6048, 19960, 783361],
     [26912, 26944, 8352, 25080, 1198081],
+    [26912, 26944, 8352, 25080, 1198081],
 ];
-
-/// Those of a set; sets 13 to 24 have those of sets 1 to 12. A call with set 0 or with what is no set is refused whatever its lengths.
-pub fn row(number: usize) -> [usize; 5] {
-    match number {
-        0 => [11552, 32, 2560, 12022, 17],
-        1..SET_COUNT => ROWS[(number - 1) % 12],
-        _ => ROWS[11],
-    }
-}
 
 /// What the wrong length of each slice of a call is refused with: 9 is for a ciphertext, 10 for a work slice, 2 for any other.
 pub const KEY: &[u8] = &[2, 2, 2, 10];
@@ -46,9 +38,9 @@ pub fn change(slices: usize, i: usize) -> usize {
     (0..2 * slices + 1).chain((1..slices).flat_map(two)).nth(i).unwrap()
 }
 
-/// How many changes such a call with a set has; a set with AES is not run with two changes at once.
-pub fn changes_with(number: usize, slices: usize) -> usize {
-    2 * slices + 1 + if has_aes(number) { 0 } else { slices * (slices - 1) / 2 }
+/// How many changes such a call has.
+pub fn changes(slices: usize) -> usize {
+    2 * slices + 1 + slices * (slices - 1) / 2
 }
 
 /// The slice that a change is about; 20 and more make a slice empty.
@@ -100,7 +92,7 @@ impl Call {
     pub fn line<T>(&self, name: &str, slices: &[u8], given: &Result<T, Refusal>, outputs: &str) -> String {
         let mut work = vec![7; 25081];
         if self.checked(slices).is_ok() {
-            work[..row(self.number)[3]].fill(0);
+            work[..SETS[self.number][3]].fill(0);
         }
         format!("{name} {} {} {} {outputs} {}\n", self.number, self.change, answer(given), number_sum(&work))
     }
@@ -130,7 +122,7 @@ impl Store {
     }
 
     pub fn key(&mut self, call: Call) {
-        let [public, secret, _, work, _] = row(call.number);
+        let [public, secret, _, work, _] = SETS[call.number];
         let command = if call.is_exchange { Command::ExchangeKey } else { Command::EncryptionKey };
         let make = if call.is_exchange { exchange_key } else { key };
         self.call(command, call, &call.changed([32, public, secret, work]));
@@ -144,7 +136,7 @@ impl Store {
     }
 
     fn encrypt(&mut self, call: Call) {
-        let [public, _, sealed, work, _] = row(call.number);
+        let [public, _, sealed, work, _] = SETS[call.number];
         self.call(Command::Encrypt, call, &call.changed([public, 32, 32, sealed, work]));
         let made = call.checked(ENCRYPT).and_then(|s| encrypt(&s, self.part(PUBLIC, public), self.part(MESSAGE, 32), self.part(SEALING, 32)));
         let sealed = over_pattern(8353, 3, made.as_ref().ok().map(|sealed| &sealed[..]));
@@ -153,7 +145,7 @@ impl Store {
     }
 
     fn encapsulate(&mut self, call: Call) {
-        let [public, _, sealed, work, _] = row(call.number);
+        let [public, _, sealed, work, _] = SETS[call.number];
         self.call(Command::Encapsulate, call, &call.changed([public, 32, sealed, 32, work]));
         let made = call.checked(ENCAPSULATE).and_then(|s| encapsulate(&s, self.part(PUBLIC, public), self.part(MESSAGE, 32)));
         let sealed = over_pattern(8353, 3, made.as_ref().ok().map(|(sealed, _)| &sealed[..]));
@@ -171,7 +163,7 @@ impl Store {
     }
 
     pub fn open(&mut self, call: Call) {
-        let [_, secret, sealed, work, _] = row(call.number);
+        let [_, secret, sealed, work, _] = SETS[call.number];
         let (command, name, start) = if call.is_exchange { (Command::Decapsulate, "decapsulate", 5) } else { (Command::Decrypt, "decrypt", 4) };
         self.call(command, call, &call.changed([secret, sealed, 32, work]));
         let open = if call.is_exchange { decapsulate } else { decrypt };
@@ -193,15 +185,14 @@ fn open_flipped(store: &mut Store, call: Call, place: usize) {
 
 /// One set with one choice of inputs, in one of the two schemes. What reads a key or a ciphertext takes what the calls before it made.
 fn case(store: &mut Store, is_exchange: bool, number: usize, start: usize) {
-    let [_, _, end, _, q] = row(number);
+    let [_, _, end, _, q] = SETS[number];
     let second_part = end - if is_exchange { 232 } else { 200 };
     let modulus = [0, 8, 16].map(|bit| (q >> bit) as u8);
     let call = |change| Call { is_exchange, number, change, shown: Shown::Line };
     store.fill_inputs(start);
-    let changes = |slices| (0..changes_with(number, slices)).rev().map(move |i| change(slices, i));
-    changes(4).for_each(|change| store.key(call(change)));
-    changes(5).for_each(|change| store.seal(call(change)));
-    changes(4).for_each(|change| store.open(call(change)));
+    (0..changes(4)).rev().for_each(|i| store.key(call(change(4, i))));
+    (0..changes(5)).rev().for_each(|i| store.seal(call(change(5, i))));
+    (0..changes(4)).rev().for_each(|i| store.open(call(change(4, i))));
     [end - 1, second_part, 0, end - 32].into_iter().for_each(|place| open_flipped(store, call(0), place));
     // A number that is no residue, first with a work slice one short.
     store.put(SEALED, &modulus);
@@ -214,9 +205,8 @@ fn case(store: &mut Store, is_exchange: bool, number: usize, start: usize) {
 
 pub fn run(store: &mut Store) {
     for is_exchange in [false, true] {
-        for number in numbers_of_sets() {
-            let starts = if has_aes(number) { &[5][..] } else { &[5, 77] };
-            starts.iter().for_each(|&start| case(store, is_exchange, number, start));
+        for number in 0..14 {
+            [5, 77].into_iter().for_each(|start| case(store, is_exchange, number, start));
         }
     }
 }

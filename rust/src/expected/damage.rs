@@ -1,9 +1,6 @@
 //! The generator of rounds of random calls.
 
-use super::numbers_of_sets;
-use crate::parameters::SET_COUNT;
-
-pub const ROUNDS: usize = 40;
+pub const ROUNDS: usize = 20;
 
 /// The generator of a group of calls: a number is found from where it is wanted, so it rests on no answer.
 pub struct Group(pub usize);
@@ -26,9 +23,9 @@ impl Group {
         self.below(i, cases) == 0
     }
 
-    /// A set, or a number that is none.
+    /// A set from 0 to 13.
     pub fn set(&self, i: usize) -> usize {
-        numbers_of_sets().nth(self.below(i, SET_COUNT + 2)).unwrap()
+        self.below(i, 14)
     }
 
     /// Which length of a call with so many slices is changed: one more or one less (1 to 19), or an empty slice (20 and on).

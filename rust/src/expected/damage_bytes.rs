@@ -2,7 +2,7 @@
 
 use super::bytes::{Bytes, LIMIT};
 use super::damage::{Group, ROUNDS};
-use crate::parameters::{set, SET_COUNT};
+use crate::parameters::set;
 
 fn hashes(run: &mut Bytes, group: &Group) {
     let length = |i| match group.below(i, 20) {
@@ -29,7 +29,7 @@ fn draws(run: &mut Bytes, group: &Group) {
     run.set_aside(0, first, aside);
     run.residues(group.set(4), [lent(3, 3 * count, 1200), count, first, aside]);
     let (count, number) = (wanted(5), group.set(8));
-    let s = set(number.clamp(1, SET_COUNT - 1)).unwrap();
+    let s = set(number.clamp(1, 12)).unwrap();
     let enough = s.multipliers() * s.multiplier_bytes() + s.multipliers() / 8;
     let multipliers = [number, lent(9, enough, 500), group.below(10, s.multipliers()), wanted(11)];
     run.errors_and_multipliers([group.set(7), lent(6, count, 2), count], multipliers);
@@ -40,7 +40,6 @@ pub fn run(run: &mut Bytes) {
         run.script.text(&format!("round {i}\n"));
         run.random(&Group(8 * i), 1);
         hashes(run, &Group(8 * i));
-        run.block(64 * i);
         draws(run, &Group(8 * i + 1));
     }
 }

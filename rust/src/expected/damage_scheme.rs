@@ -1,7 +1,7 @@
 //! The rounds of random calls in run_scheme: calls of both schemes, each on what the call before made, which is often damaged, then all steps in one call,
 //! and the noise sheet. A length is wrong now and then.
 
-use super::cases::{row, Call, Shown};
+use super::cases::{Call, Shown, SETS};
 use super::damage::{Group, ROUNDS};
 use super::report::changed;
 use super::store::{Store, PUBLIC, SEALED, SECRET, SEED};
@@ -27,8 +27,8 @@ fn damage(store: &mut Store, group: &Group, [from, length]: [usize; 2], first: u
 /// Key, sealing and opening in one scheme, then all steps in one call.
 fn scheme_calls(store: &mut Store, group: &Group, is_exchange: bool) {
     let any = group.set(0);
-    let number = if group.one_in(1, 4) { any } else { [1, 13][any % 2] + any / 2 % 6 + if is_exchange { 6 } else { 0 } };
-    let [public, secret, sealed, _, q] = row(number);
+    let number = if group.one_in(1, 4) { any } else { any % 6 + if is_exchange { 7 } else { 1 } };
+    let [public, secret, sealed, _, q] = SETS[number];
     let call = |change| Call { is_exchange, number, change, shown: Shown::Line };
     let damaged = group.below(7, 4);
     store.fill_random(SEED, 97, group, 1);
@@ -56,12 +56,9 @@ fn bench_byte(place: usize, x: u8) -> u8 {
     }
 }
 
-/// The sets that have a sheet, and two exchange sets.
-const SHEET_SETS: [usize; 15] = [0, 1, 2, 3, 4, 5, 6, 7, 13, 14, 15, 16, 17, 18, 19];
-
 /// The sheet of an input, then with the length of a slice changed. In one case of four any byte, which may be that of the set, is another.
 fn sheet_calls(store: &mut Store, group: &Group) {
-    let number = SHEET_SETS[group.below(0, SHEET_SETS.len())];
+    let number = group.below(0, 8);
     let right = if number == 0 { 14 } else { 97 };
     if number == 0 {
         let input: Vec<u8> = group.bytes(1, right + 1).iter().enumerate().map(|(place, &x)| bench_byte(place, x)).collect();

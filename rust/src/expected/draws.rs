@@ -1,7 +1,6 @@
 //! The draws over lent bytes that run_bytes makes.
 
 use super::bytes::Bytes;
-use super::numbers_of_sets;
 use crate::parameters::set;
 
 const LENT: usize = 15300;
@@ -24,7 +23,7 @@ fn multipliers(run: &mut Bytes, number: usize, (lent, first, wanted): (usize, us
 }
 
 fn every_set(run: &mut Bytes) {
-    for number in numbers_of_sets() {
+    for number in 0..14 {
         residues(run, number, [300, 50, 20, 3]);
         errors(run, number, 300, 50);
         multipliers(run, number, (LENT, 100, 50));
@@ -62,8 +61,7 @@ fn all_signed(run: &mut Bytes) {
     for (lent, wanted) in [(4096, 4096), (4095, 4096), (4097, 4097), (0, 0)] {
         errors(run, 1, lent, wanted);
     }
-    // the lent bytes take the place of the byte source, so two sets with AES suffice
-    for number in (1..=12).chain([13, 24]) {
+    for number in 1..13 {
         positions(run, number);
     }
     for case in [(9216, 4096, 4096), (9215, 4096, 4096), (9216, 0, 4097), (9216, usize::MAX, 2)] {

@@ -1,6 +1,6 @@
 //! What run_scheme reads and prints first: the known answers of an independent model (rust/vectors/titanium.txt), as that file has them.
 
-use super::cases::{row, Call, Shown};
+use super::cases::{Call, Shown, SETS};
 use super::store::{Command, Store, MESSAGE, OPENED, PUBLIC, SEALED, SEALING, SECRET};
 use crate::parameters;
 use crate::scheme::sealed_numbers;
@@ -42,7 +42,7 @@ fn input(set: &Values) -> Vec<u8> {
 
 /// Ends the line of a name with what the store has of it.
 fn value(store: &mut Store, call: Call, name: &str) {
-    let [public, secret, sealed, work, _] = row(call.number);
+    let [public, secret, sealed, work, _] = SETS[call.number];
     match name {
         "secret_key" => store.hex(SECRET, secret),
         "public_key_shake256" => store.digest(PUBLIC, public),

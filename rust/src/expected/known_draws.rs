@@ -30,7 +30,7 @@ impl Case<'_> {
 
     /// The counter after a draw of residues.
     fn reached(&self, seed: usize, block: usize, wanted: usize) -> usize {
-        let mut source = Source::new(&self.s, &self.run.bytes[seed..seed + 32]);
+        let mut source = Source::new(&self.run.bytes[seed..seed + 32]);
         residues_from(&self.s, &mut source, wanted, block).unwrap();
         source.counter() as usize
     }

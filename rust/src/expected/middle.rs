@@ -1,7 +1,6 @@
 //! The middle products that run_arithmetic makes.
 
 use super::arithmetic::{Arithmetic, Put, A, B};
-use super::{has_aes, numbers_of_sets};
 use crate::parameters::set;
 
 const MOST: usize = 4097;
@@ -30,22 +29,14 @@ impl Products<'_> {
         self.transformed(lengths, self.size);
     }
 
-    /// Few numbers, and lengths that do not fit each other, among them each one off.
-    fn short_lengths(&mut self) {
+    fn all_lengths(&mut self) {
         let short = [[1, 1, 1], [1, 2, 2], [2, 2, 1], [2, 3, 2]];
-        let misfits = [[4097, 4096, 1], [1, 4096, 4097], [0, 0, 1], [0, 3, 4], [1, 0, 0], [4, 3, 0]];
-        let one_off = [[3, 4, 3], [3, 6, 3], [2, 5, 3], [4, 5, 3], [3, 5, 2], [3, 5, 4]];
-        for &case in short.iter().chain(&misfits).chain(&one_off) {
-            self.both(case);
-        }
-    }
-
-    /// Lengths around the largest.
-    fn long_lengths(&mut self) {
         let long_a = [4095, 4096, 4097].map(|n| [n, n, 1]);
         let long_b = [4095, 4096, 4097].map(|n| [1, n, n]);
         let middle = [4095, 4096, 4097].map(|n| [2048, n, n - 2047]);
-        for &case in long_a.iter().chain(&long_b).chain(&middle) {
+        let misfits = [[4097, 4096, 1], [1, 4096, 4097], [0, 0, 1], [0, 3, 4], [1, 0, 0], [4, 3, 0]];
+        let one_off = [[3, 4, 3], [3, 6, 3], [2, 5, 3], [4, 5, 3], [3, 5, 2], [3, 5, 4]];
+        for &case in short.iter().chain(&long_a).chain(&long_b).chain(&middle).chain(&misfits).chain(&one_off) {
             self.both(case);
         }
     }
@@ -89,16 +80,12 @@ impl Products<'_> {
 }
 
 pub fn run(run: &mut Arithmetic) {
-    for number in numbers_of_sets() {
+    for number in 0..14 {
         let s = set(number).or(set(0)).unwrap();
         let mut products = Products { run, number, q: s.q, size: s.sizes[2] };
         products.fill([1, 2]);
+        products.all_lengths();
         products.around_size();
-        products.short_lengths();
-        // a long plain product takes long and rests on the modulus alone, so two sets with AES suffice
-        if !has_aes(number) || [13, 24].contains(&number) {
-            products.long_lengths();
-        }
         products.all_wrong();
     }
 }

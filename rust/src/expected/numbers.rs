@@ -1,7 +1,6 @@
 //! The calls on numbers that run_arithmetic makes.
 
 use super::arithmetic::{Arithmetic, Put, A, B, C1, C2, E, MESSAGE, R, S};
-use super::numbers_of_sets;
 use super::report::changed;
 use crate::draws::multiplier_bound;
 use crate::parameters::{set, Set};
@@ -159,7 +158,7 @@ impl Row {
 }
 
 pub fn run(run: &mut Arithmetic) {
-    for number in numbers_of_sets() {
+    for number in 0..14 {
         Row::new(number).run(run);
     }
 }

@@ -1,7 +1,7 @@
 //! The partial transforms that run_arithmetic makes.
 
 use super::arithmetic::{Arithmetic, Put, A};
-use crate::parameters::{set, SET_COUNT};
+use crate::parameters::set;
 use crate::partial::Split;
 
 /// Both calls, with slices of these lengths.
@@ -28,39 +28,36 @@ fn every_split(run: &mut Arithmetic, number: usize) {
     }
 }
 
-/// Sets that are none.
-fn no_sets(run: &mut Arithmetic) {
-    for number in [0, 25, 255, usize::MAX] {
-        both(run, number, [2, 256, 1], [512; 2]);
+/// Sets that are none, no rows and too many, products that are no size, among them those that a word of 64 bits takes for one, and lengths one off.
+fn refused(run: &mut Arithmetic) {
+    let whole = [512; 2];
+    for number in [0, 13, usize::MAX] {
+        both(run, number, [2, 256, 1], whole);
         both(run, number, [2, 256, 0], [0; 2]);
     }
-}
-
-/// No rows and too many, products that are no size, among them those that a word of 64 bits takes for one, and lengths one off.
-fn refused(run: &mut Arithmetic, number: usize) {
     let top = 1 << 63;
     let rows = [[2, 256, 0], [2, 256, 3], [0, 512, 0], [0, 512, 1], [3, 7, 0], [3, 7, 4]];
     let sizes = [[2, 255, 1], [3, 256, 1], [512, 0, 1], [1 << 32, 1 << 32, 1], [top, 2, 1], [top + 256, 2, 2], [usize::MAX, usize::MAX, 1], [2, top + 256, 1]];
     for split in rows.into_iter().chain(sizes) {
-        both(run, number, split, [512; 2]);
-        both(run, number, split, [511; 2]);
+        both(run, 1, split, whole);
+        both(run, 1, split, [511; 2]);
     }
     for lengths in [[511, 512], [513, 512], [512, 511], [512, 513], [511, 513], [0, 0]] {
-        both(run, number, [2, 256, 1], lengths);
-        both(run, number, [4, 128, 4], lengths);
+        both(run, 1, [2, 256, 1], lengths);
+        both(run, 1, [4, 128, 4], lengths);
     }
 }
 
 /// Numbers of q or more at the first place, at one that is read, at one that is skipped and at the last; with them, other faults, which come first.
-fn large_numbers(run: &mut Arithmetic, number: usize) {
-    let q = set(number).unwrap().q as u32;
+fn large_numbers(run: &mut Arithmetic) {
+    let q = set(1).unwrap().q as u32;
     for (place, x) in [(0, q), (100, u32::MAX), (300, q), (511, q + 1)] {
         run.with(&[Put::Number(A + place, x)], |run| {
-            both(run, number, [2, 256, 1], [512; 2]);
-            both(run, number, [8, 64, 2], [512; 2]);
-            both(run, number, [2, 256, 1], [512, 511]);
-            both(run, number, [2, 255, 1], [512; 2]);
-            both(run, number, [2, 256, 3], [512; 2]);
+            both(run, 1, [2, 256, 1], [512; 2]);
+            both(run, 1, [8, 64, 2], [512; 2]);
+            both(run, 1, [2, 256, 1], [512, 511]);
+            both(run, 1, [2, 255, 1], [512; 2]);
+            both(run, 1, [2, 256, 3], [512; 2]);
         });
     }
 }
@@ -77,7 +74,7 @@ fn known(run: &mut Arithmetic) {
 }
 
 pub fn run(run: &mut Arithmetic) {
-    for number in 1..SET_COUNT {
+    for number in 1..13 {
         let s = set(number).unwrap();
         run.residues(A, 3329, 5, s.q);
         match number {
@@ -87,9 +84,6 @@ pub fn run(run: &mut Arithmetic) {
     }
     known(run);
     run.residues(A, 3329, 6, set(1).unwrap().q);
-    no_sets(run);
-    for number in [1, 13] {
-        refused(run, number);
-        large_numbers(run, number);
-    }
+    refused(run);
+    large_numbers(run);
 }

@@ -4,7 +4,7 @@ use super::bytes::Bytes;
 use super::report::number_sum;
 use crate::arithmetic::residue;
 use crate::draws::{key_errors, residues_from, sealing_multipliers, uniform, Source};
-use crate::parameters::{set, Set, SET_COUNT};
+use crate::parameters::{set, Set};
 
 const MOST: usize = 10240;
 
@@ -16,7 +16,7 @@ fn written(mut numbers: Vec<u32>, length: usize) -> u64 {
 
 /// Residues from the seed at the front of the store: block size, first counter and results wanted.
 fn residues(run: &mut Bytes, s: &Set, [size, first, wanted]: [usize; 3]) {
-    let mut source = Source::at(s, &run.bytes[..32], first as u32);
+    let mut source = Source::at(&run.bytes[..32], first as u32);
     let answer = match residues_from(s, &mut source, wanted, size) {
         Ok(drawn) => format!("counter {} {}", source.counter(), written(drawn, MOST)),
         Err(refused) => format!("refused {}", refused.number),
@@ -30,7 +30,7 @@ fn signed_sum(s: &Set, numbers: &[i32]) -> u64 {
 }
 
 fn errors(run: &mut Bytes, s: &Set, counter: usize) {
-    let sum = signed_sum(s, &key_errors(s, &mut Source::at(s, &run.bytes[..32], counter as u32)));
+    let sum = signed_sum(s, &key_errors(s, &mut Source::at(&run.bytes[..32], counter as u32)));
     run.script.command(&[14, s.number, counter]);
     run.script.print(&format!("errors {} {counter} {sum}\n", s.number));
 }
@@ -64,7 +64,7 @@ fn two_blocks(run: &mut Bytes, s: &Set, aside: usize) {
 }
 
 pub fn run(run: &mut Bytes) {
-    for s in (1..SET_COUNT).map(|number| set(number).unwrap()) {
+    for s in (1..13).map(|number| set(number).unwrap()) {
         one_seed(run, &s, 1);
         one_seed(run, &s, 2);
         for aside in [26, 27, 28] {

@@ -57,13 +57,12 @@ fn tenth_and_eleventh() -> Vec<u8> {
 }
 
 fn inputs() -> Vec<Vec<u8>> {
-    let mut inputs = vec![vec![]];
-    inputs.extend([0, 7, 12, 13, 18, 19, 24, 25, 255].map(|number| vec![number]));
+    let mut inputs = vec![vec![], vec![0], vec![7], vec![255]];
     inputs.extend(bench_inputs());
     inputs.extend(equal_sizes());
     inputs.extend(known_inputs());
     inputs.push(tenth_and_eleventh());
-    inputs.extend((1..=7).chain([12]).chain(13..=19).chain([24, 25, 255]).flat_map(seeded_inputs));
+    inputs.extend((1..8).flat_map(seeded_inputs));
     inputs
 }
 

@@ -1,10 +1,10 @@
 //! The ties of the rounding, 2w = h and 2w = 3h, in run_scheme: ciphertexts made with the secret, so that one place is read from a tie.
 
-use super::cases::{row, Call, Shown};
+use super::cases::{Call, Shown, SETS};
 use super::report::pattern;
 use super::store::{Command, Store, OPENED, SEALED, SECRET};
 use crate::packing::pack;
-use crate::parameters::{set, Set, SET_COUNT};
+use crate::parameters::{set, Set};
 use crate::scheme::{ciphertext_numbers, decrypt, read_numbers, secret_numbers};
 
 /// Where the pattern of the secret's seed begins.
@@ -25,14 +25,14 @@ fn made(s: &Set, w: u64) -> (u32, usize) {
 
 /// The sets, each with both ties.
 fn cases() -> impl Iterator<Item = (Set, u64)> {
-    (1..SET_COUNT).map(|number| set(number).unwrap()).flat_map(|s| [1, 3].map(|times| (s, times * s.half() / 2)))
+    (1..13).map(|number| set(number).unwrap()).flat_map(|s| [1, 3].map(|times| (s, times * s.half() / 2)))
 }
 
 /// Makes the ciphertext and reads it. The transform of (x, 0, 0, ..) is x at every place: eight packed numbers fill as many bytes as a number has bits, and
 /// the others repeat them. Decapsulation does not show what it reads, so in the key exchange the step that reads is called.
 fn tie(store: &mut Store, s: &Set, w: u64) {
     let (x, place) = made(s, w);
-    let [_, _, bytes, work, _] = row(s.number);
+    let [_, _, bytes, work, _] = SETS[s.number];
     let end = if s.is_exchange() { bytes - 32 } else { bytes };
     store.fill_pattern(SECRET, 32, SEED);
     store.repeat(SEALED, end - s.d, &pack(&[x; 8], s.width()));

@@ -3,7 +3,7 @@
 use super::arithmetic::{Arithmetic, A, B};
 use super::report::number_sum;
 use crate::arithmetic::{pointwise, Transform};
-use crate::parameters::{set, Set, SET_COUNT};
+use crate::parameters::{set, Set};
 
 /// Transform number i (0 to 2) of a set, of vectors of which the first n numbers count.
 struct Case<'a> {
@@ -58,7 +58,7 @@ impl Case<'_> {
 }
 
 pub fn run(run: &mut Arithmetic) {
-    for s in (0..SET_COUNT).map(|number| set(number).unwrap()) {
+    for s in (0..13).map(|number| set(number).unwrap()) {
         for (i, &size) in s.sizes.iter().enumerate() {
             Case { run, s, i, n: size }.line();
             Case { run, s, i, n: size / 2 + 1 }.line();

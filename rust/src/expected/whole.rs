@@ -1,7 +1,6 @@
-//! Key, sealing and reading in one call in run_scheme: each slice one short and one long, and, but with AES, each two of them wrong at once.
+//! Key, sealing and reading in one call in run_scheme: each slice one short and one long, and each two of them wrong at once.
 
-use super::cases::{change, changes_with, over_pattern, row, Call, Shown, SEAL_AND_READ, SHARE_A_KEY};
-use super::numbers_of_sets;
+use super::cases::{change, changes, over_pattern, Call, Shown, SEAL_AND_READ, SETS, SHARE_A_KEY};
 use super::report::{byte_sum, hex};
 use super::store::{Command, Store, MESSAGE, SEALING, SEED};
 use crate::draws::Refusal;
@@ -27,7 +26,7 @@ fn exchange(s: &Set, [seed, _, message]: [&[u8]; 3]) -> Result<Made, Refusal> {
 
 /// The command of a call, and the length of each of its slices.
 fn command(call: &Call) -> (Command, [usize; 8]) {
-    let [public, secret, sealed, work, _] = row(call.number);
+    let [public, secret, sealed, work, _] = SETS[call.number];
     if call.is_exchange {
         (Command::ShareAKey, call.changed([32, 32, public, secret, sealed, 32, 32, work]))
     } else {
@@ -54,8 +53,8 @@ impl Store {
 pub fn run(store: &mut Store) {
     store.fill_inputs(5);
     for is_exchange in [false, true] {
-        for number in numbers_of_sets() {
-            (0..changes_with(number, 8)).rev().for_each(|i| store.whole(is_exchange, number, change(8, i)));
+        for number in 0..14 {
+            (0..changes(8)).rev().for_each(|i| store.whole(is_exchange, number, change(8, i)));
         }
     }
 }

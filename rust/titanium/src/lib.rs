@@ -1,8 +1,5 @@
 //! Titanium 1.1 over the proved library: the open calls on slices. Each call refuses exactly what include/titanium.h says, leaves every
 //! output as it was when it refuses, and reads and writes nothing outside its slices.
-//!
-//! Sets 1 to 6 are those of the encryption scheme, 7 to 12 those of the key exchange; 13 to 24 are 1 to 12 with the AES byte source: the same lengths, other
-//! bytes. Set 0, Bench, serves the products, the calls on numbers and the noise sheet alone.
 
 mod raw;
 
@@ -98,7 +95,7 @@ fn answer(code: u64) -> Result<(), Refused> {
     }
 }
 
-/// Bytes of a public key; 0 for a set above 24.
+/// Bytes of a public key; 0 for a set above 12.
 pub fn public_key_bytes(set: usize) -> usize {
     unsafe { raw::titanium_public_key_bytes(set) }
 }

@@ -31,7 +31,7 @@ errors-from-requires c κs =
     let at = c.before in
     let rules = at.before.parameters.ensures in
     let size = front_length (start at).args.out.now at.error-count.result (omega (arith, count_most at, (start at).requires.1)) in
-    ((rules.0, rules.1, omega (arith, (start at).requires.0), size ∙ at.error-count.ensures.0), omega (arith, rules.1.most_error_bytes))
+    ((rules.0, rules.1, (start at).requires.0, size ∙ at.error-count.ensures.0), omega (arith, rules.1.most_error_bytes))
 
 pub errors_into_spec : {M : Type 1} → statement M
 errors_into_spec =

@@ -1,4 +1,4 @@
--- The parameters of sets 1 to 24 keep the rules, and their moduli are above 0.
+-- The parameters of sets 1 to 12 keep the rules, and their moduli are above 0.
 -- Assumes nothing.
 use Prim.Native.Nat.{◌<◌}
 use native.Mathlib.Omega.{arith}

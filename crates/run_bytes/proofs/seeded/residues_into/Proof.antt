@@ -10,7 +10,7 @@ residues-from-requires c κs =
     let pre = c.before.before.before.before.before.before.requires in
     let size = c.before.within2.ensures in
     let count = c.before.before.before.within.ensures in (
-      (c.before.before.parameters.ensures.0, omega (arith, pre.0), size.0, size.1),
+      (c.before.before.parameters.ensures.0, pre.0, size.0, size.1),
       (omega (arith, pre.1, count.0, count.1), omega (arith, pre.1, count.0, count.1)),
     )
 

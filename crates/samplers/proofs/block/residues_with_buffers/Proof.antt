@@ -11,30 +11,30 @@ use Rattle.samplers.proofs.block.residues_with_buffers.Statement.{statement}
 use Rattle.samplers.proofs.block.residues_with_buffers.Tie as tie
 
 abbrev invariant-loop : tie.invariant-loop
-invariant-loop p seed first bytes₀ out₀ keys counter₀ done₀ run₀ bytes out counter done run =
+invariant-loop p seed first bytes₀ out₀ counter₀ done₀ run₀ bytes out counter done run =
     (length bytes ≡ length bytes₀) × Drawing p seed (length bytes₀) first out₀ counter done run out
 
 abbrev decreases-loop : tie.decreases-loop
-decreases-loop p seed first bytes₀ out₀ keys counter₀ done₀ run₀ bytes out counter done run = length out₀ - done
+decreases-loop p seed first bytes₀ out₀ counter₀ done₀ run₀ bytes out counter done run = length out₀ - done
 
 loop-holds : tie.Need-loop-init invariant-loop decreases-loop
 loop-holds c = (refl, drawing_none _ _ _ _ _ (omega arith))
 
 -- the start, where a turn begins, and where its block is read
 abbrev start : tie.At-loop invariant-loop decreases-loop → tie.Start invariant-loop decreases-loop
-start c = c.before.before.before.before.before
+start c = c.before.before.before.before
 
-abbrev turn : tie.After-keyed-bytes invariant-loop decreases-loop → tie.At-loop invariant-loop decreases-loop
-turn c = c.before.before.before
+abbrev turn : tie.After-source-bytes invariant-loop decreases-loop → tie.At-loop invariant-loop decreases-loop
+turn c = c.before.before
 
-abbrev read : tie.After-continue-draw invariant-loop decreases-loop → tie.After-keyed-bytes invariant-loop decreases-loop
+abbrev read : tie.After-continue-draw invariant-loop decreases-loop → tie.After-source-bytes invariant-loop decreases-loop
 read c = c.before.before.before.before.before
 
-keyed-bytes-requires : tie.Need-keyed-bytes-requires invariant-loop decreases-loop
-keyed-bytes-requires c κs =
-    let begun = c.before.before in
+source-bytes-requires : tie.Need-source-bytes-requires invariant-loop decreases-loop
+source-bytes-requires c κs =
+    let begun = c.before in
     let pre = (start begun).requires in
-    (pre.0.1, begun.before.key-schedule.ensures, rw begun.loop.invariant.0 (drawing_fits begun.loop.invariant.1 pre.0.3 pre.1.1))
+    (pre.0.1, rw begun.loop.invariant.0 (drawing_fits begun.loop.invariant.1 pre.0.3 pre.1.1))
 
 continue-draw-requires : tie.Need-continue-draw-requires invariant-loop decreases-loop
 continue-draw-requires c κs =
@@ -49,15 +49,15 @@ returns c =
     let begun = turn (read drawn) in
     let told = ap standing c.before.enum_told.given.1 in
     let number = c.refusal-of.ensures ∙ ap stopped_by told in
-    drawing_refused begun.loop.inv.1 _ _ (rw begun.loop.inv.0 at (read drawn).keyed-bytes.ensures.1)
-    (rw begun.loop.inv.0 at (read drawn).keyed-bytes.ensures.0) _ _ (ap stopped number ∙ sym told ∙ drawn.continue-draw.ensures.0)
+    drawing_refused begun.loop.inv.1 _ _ (rw begun.loop.inv.0 at (read drawn).source-bytes.ensures.1)
+    (rw begun.loop.inv.0 at (read drawn).source-bytes.ensures.0) _ _ (ap stopped number ∙ sym told ∙ drawn.continue-draw.ensures.0)
 
 returns-2 : tie.Need-returns-2 invariant-loop decreases-loop
 returns-2 c =
     let drawn = c.before.before.before.before.before.before in
     let begun = turn (read drawn) in
-    drawing_all begun.loop.inv.1 _ _ (rw begun.loop.inv.0 at (read drawn).keyed-bytes.ensures.1)
-    (rw begun.loop.inv.0 at (read drawn).keyed-bytes.ensures.0) _ _ _ (search rules) c.if1.true
+    drawing_all begun.loop.inv.1 _ _ (rw begun.loop.inv.0 at (read drawn).source-bytes.ensures.1)
+    (rw begun.loop.inv.0 at (read drawn).source-bytes.ensures.0) _ _ _ (search rules) c.if1.true
     (sym (ap standing c.before.before.progress.given.1) ∙ drawn.continue-draw.ensures.0) drawn.continue-draw.ensures.1
 
 loop-less : tie.Need-loop-smaller invariant-loop decreases-loop
@@ -65,8 +65,8 @@ loop-less c =
     let drawn = c.before.before.before.before.before.before in
     let begun = turn (read drawn) in
     let rises =
-    drawing_rises begun.loop.inv.1 _ _ (rw begun.loop.inv.0 at (read drawn).keyed-bytes.ensures.1)
-    (rw begun.loop.inv.0 at (read drawn).keyed-bytes.ensures.0) _ _ _ (start begun).pre.0.2 (search rules) c.if1.false
+    drawing_rises begun.loop.inv.1 _ _ (rw begun.loop.inv.0 at (read drawn).source-bytes.ensures.1)
+    (rw begun.loop.inv.0 at (read drawn).source-bytes.ensures.0) _ _ _ (start begun).pre.0.2 (search rules) c.if1.false
     (sym (ap standing c.before.before.progress.given.1) ∙ drawn.continue-draw.ensures.0) drawn.continue-draw.ensures.1 in
     omega (arith, rises, begun.loop.inv.1.unfinished)
 
@@ -75,8 +75,8 @@ loop-again c =
     let drawn = c.before.before.before.before.before.before in
     let begun = turn (read drawn) in (
       search rules,
-      drawing_more begun.loop.inv.1 _ _ (rw begun.loop.inv.0 at (read drawn).keyed-bytes.ensures.1)
-          (rw begun.loop.inv.0 at (read drawn).keyed-bytes.ensures.0) _ _ _ (start begun).pre.0.2 (search rules) c.if1.false
+      drawing_more begun.loop.inv.1 _ _ (rw begun.loop.inv.0 at (read drawn).source-bytes.ensures.1)
+          (rw begun.loop.inv.0 at (read drawn).source-bytes.ensures.0) _ _ _ (start begun).pre.0.2 (search rules) c.if1.false
           (sym (ap standing c.before.before.progress.given.1) ∙ drawn.continue-draw.ensures.0) drawn.continue-draw.ensures.1,
     )
 
@@ -86,10 +86,8 @@ residues_with_buffers_spec =
     (tie.spec
     invariant-loop
     decreases-loop
-    (λ c κs. search rules)
     loop-holds
-    (λ c. search rules)
-    keyed-bytes-requires
+    source-bytes-requires
     continue-draw-requires
     (λ c. search rules)
     (λ c. search rules)

@@ -32,11 +32,11 @@ loop-again : tie.Need-loop-preserved invariant-loop decreases-loop
 loop-again c =
     let q = (loop-of c).loop.invariant in
     rw (c.before.before.copy_at.ensures, sub-zero)
-    (squeezing_more _ _ q _ _ _ (omega (arith, q.filled.kept, (in_loop_of c).loop-test.true)) (permute_of c).permute.ensures
+    (squeezing_more q _ _ _ (omega (arith, q.kept, (in_loop_of c).loop-test.true)) (permute_of c).permute.ensures
     c.before.before.before.before.before.before.before.lane-block.ensures c.before.before.before.before.before.before.smaller.ensures)
 
 returns : tie.Need-returns invariant-loop decreases-loop
-returns c = squeezing_all _ _ c.before.loop.invariant (omega (arith, c.before.loop.invariant.filled.kept, c.loop-test.false))
+returns c = squeezing_all c.before.loop.invariant (omega (arith, c.before.loop.invariant.kept, c.loop-test.false))
 
 pub squeeze_spec : {M : Type 1} → statement M
 squeeze_spec =

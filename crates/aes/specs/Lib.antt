@@ -1,2 +1,0 @@
-pub mod Cipher
-pub mod Key

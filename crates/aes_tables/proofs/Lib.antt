@@ -1,2 +1,0 @@
-pub mod Substitution
-pub mod Bytes

@@ -1,4 +1,0 @@
-pub mod Field
-pub mod State
-pub mod Substitution
-pub mod Words
