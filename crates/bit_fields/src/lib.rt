@@ -1,4 +1,6 @@
 // Some bits of bytes and of words: what `packing` reads and writes place by place (003, algorithms 20, 22 and 27).
+#![tactic(auto)]
+
 ghost use Rattle.std.specs.Prelude.{◌≡◌, ◌+◌, ◌*◌, ◌/◌, ◌%◌, ◌^◌, ◌<◌, ◌≤◌};
 ghost use Rattle.maths.specs.Vector.{at};
 

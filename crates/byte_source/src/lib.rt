@@ -1,4 +1,6 @@
 // The byte source PRG (specs/Source.antt).
+#![tactic(auto)]
+
 ghost use Rattle.std.specs.Prelude.{◌≡◌, ◌+◌, ◌^◌, ◌≤◌, ◌<◌, length};
 ghost use Rattle.byte_source.specs.Source.{state_at, output};
 

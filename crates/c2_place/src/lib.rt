@@ -1,4 +1,6 @@
 // One place of c2, the second part of a ciphertext, as the walks of both sealings finish it: on numbers (01, Sealing) and on bytes (003, algorithm 2, line 9).
+#![tactic(auto)]
+
 ghost use Rattle.std.specs.Prelude.{◌≡◌, List, ℕ, ◌+◌, ◌*◌, ◌%◌, ◌^◌, ◌<◌, length};
 ghost use Rattle.maths.specs.Vector.{at};
 ghost use Rattle.c2_place.specs.Walk.{Walked};

@@ -1,5 +1,7 @@
 // The walk over c2 of the encryption on bytes (003, algorithm 2, line 9, worked as in algorithm 41): the sums of correlations are the first row of an inverse
 // transform, whose rows are done; each place is the sum of a column, to which its message bit is added.
+#![tactic(auto)]
+
 ghost use Rattle.std.specs.Prelude.{◌≡◌, List, ℕ, ◌+◌, ◌<◌, length};
 ghost use Rattle.c2_place.specs.Walk.{Walked};
 ghost use Rattle.c2_walk.specs.Finished.{WalkReady, finished};

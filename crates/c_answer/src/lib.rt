@@ -1,4 +1,6 @@
 // The answer of an open call in one number, for callers in C.
+#![tactic(auto)]
+
 ghost use Rattle.std.specs.Prelude.{◌≡◌};
 ghost use Rattle.calls.specs.Outcome.{outcome};
 ghost use Rattle.c_answer.specs.Coded.{coded};

@@ -1,4 +1,6 @@
 // The draws over lent bytes as functions for callers in C (include/titanium.h).
+#![tactic(auto)]
+
 ghost use Rattle.std.specs.Prelude.{◌≡◌, length};
 ghost use Rattle.lent_draws.specs.Calls.{residues_answer, residues_left, errors_answer, errors_left, multipliers_answer, multipliers_left};
 ghost use Rattle.c_answer.specs.Coded.{coded};

@@ -1,4 +1,6 @@
 // The encryption scheme, sets 1 to 6, as functions for callers in C (include/titanium.h).
+#![tactic(auto)]
+
 ghost use Rattle.std.specs.Prelude.{◌≡◌, length};
 ghost use Rattle.scheme.specs.Answers.{encryption_key_answer, encryption_public_left, encryption_secret_left, encryption_key_work};
 ghost use Rattle.scheme.specs.Answers.{encrypt_answer, ciphertext_left, encrypt_work, decrypt_answer, message_left, decrypt_work};

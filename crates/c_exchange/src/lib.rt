@@ -1,4 +1,6 @@
 // The key exchange, sets 7 to 12, as functions for callers in C (include/titanium.h).
+#![tactic(auto)]
+
 ghost use Rattle.std.specs.Prelude.{◌≡◌, length};
 ghost use Rattle.scheme.specs.Answers.{exchange_key_answer, exchange_public_left, exchange_secret_left, exchange_key_work};
 ghost use Rattle.scheme.specs.Answers.{encapsulate_answer, encapsulated_left, shared_key_left, encapsulate_work};

@@ -1,4 +1,6 @@
 // The sponge functions as functions for callers in C (include/titanium.h).
+#![tactic(auto)]
+
 ghost use Rattle.std.specs.Prelude.{◌≡◌};
 ghost use Rattle.hashes.specs.Calls.{shake_answer, shake_left, kmac_answer, kmac_left, kmacxof_left};
 ghost use Rattle.c_answer.specs.Coded.{coded};

@@ -1,4 +1,6 @@
 // The lengths of a set's slices as functions for callers in C (include/titanium.h); 0 where there is no such set.
+#![tactic(auto)]
+
 ghost use Rattle.std.specs.Prelude.{◌≡◌};
 ghost use Rattle.sets.specs.Table.{set_of};
 ghost use Rattle.sets.specs.Derived.{public_key_bytes_of, secret_key_bytes_of, ciphertext_bytes_of};

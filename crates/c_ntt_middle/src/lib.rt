@@ -1,4 +1,6 @@
 // The transformed middle product as a function for callers in C (include/titanium.h).
+#![tactic(auto)]
+
 ghost use Rattle.std.specs.Prelude.{◌≡◌, length};
 ghost use Rattle.ntt_middle.specs.Calls.{transformed_answer, transformed_left, middle_work_left};
 ghost use Rattle.c_answer.specs.Coded.{coded};

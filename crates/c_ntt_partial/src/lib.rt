@@ -1,4 +1,6 @@
 // The partial transform and its inverse as functions for callers in C (include/titanium.h).
+#![tactic(auto)]
+
 ghost use Rattle.std.specs.Prelude.{◌≡◌, length};
 ghost use Rattle.ntt_partial_checks.specs.Checks.{partial_answer_of};
 ghost use Rattle.ntt_partial.specs.Calls.{partial_left, partial_inverse_left};

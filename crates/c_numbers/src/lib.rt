@@ -1,4 +1,6 @@
 // The plain middle product, and key, sealing and reading on numbers as functions for callers in C (include/titanium.h).
+#![tactic(auto)]
+
 ghost use Rattle.std.specs.Prelude.{◌≡◌, length};
 ghost use Rattle.middle.specs.Calls.{middle_answer, middle_left};
 ghost use Rattle.numbers.specs.Calls.{key_answer, key_left, sealing_answer, first_part_left, second_part_left, reading_answer, reading_left};

@@ -1,4 +1,6 @@
 // Key, encrypt and decrypt in one call, the self-test of a delivery, as a function for callers in C (include/titanium.h).
+#![tactic(auto)]
+
 ghost use Rattle.std.specs.Prelude.{◌≡◌};
 ghost use Rattle.seal_and_read.specs.Answers.{seal_and_read_answer, seal_and_read_public, seal_and_read_secret, seal_and_read_ciphertext};
 ghost use Rattle.seal_and_read.specs.Answers.{seal_and_read_message, seal_and_read_work};

@@ -1,4 +1,6 @@
 // Key, encapsulate and decapsulate in one call, the self-test of a delivery, as a function for callers in C (include/titanium.h).
+#![tactic(auto)]
+
 ghost use Rattle.std.specs.Prelude.{◌≡◌};
 ghost use Rattle.share_a_key.specs.Answers.{share_aKey_answer, share_aKey_public, share_aKey_secret, share_aKey_ciphertext};
 ghost use Rattle.share_a_key.specs.Answers.{share_aKey_sent, share_aKey_received, share_aKey_work};

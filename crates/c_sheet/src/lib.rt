@@ -1,4 +1,6 @@
 // The noise sheet as a function for callers in C (include/titanium.h), sets 0 to 6.
+#![tactic(auto)]
+
 ghost use Rattle.std.specs.Prelude.{◌≡◌, cond, length, replicate};
 ghost use Rattle.calls.specs.Region.{over};
 ghost use Rattle.sheet.specs.Sheet.{sheet_of, sheet_fits};

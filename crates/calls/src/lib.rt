@@ -1,4 +1,6 @@
 // What the open calls of every layer share: the answer, the check of a slice of numbers, and the functions on a region of a lent slice.
+#![tactic(auto)]
+
 ghost use Rattle.std.specs.Prelude.{◌≡◌, ◌+◌, ◌≤◌, length, replicate};
 ghost use Rattle.calls.specs.Checks.{passing, below};
 ghost use Rattle.calls.specs.Region.{region, over};

@@ -1,4 +1,6 @@
 // Bytes of the key exchange: two parts written one after the other, two ciphertexts compared, the part that is hashed and the shared key (003, section 2.3.2).
+#![tactic(auto)]
+
 ghost use Rattle.std.specs.Prelude.{◌≡◌, cond, ◌++◌, ◌+◌, length, drop};
 ghost use Rattle.scheme.specs.Exchange.{same, shared_hash};
 

@@ -1,4 +1,6 @@
 // The ceiling of a set, which no size of noise exceeds (specs/Ceiling.antt; 01, The bench sheet; 02, No. 5).
+#![tactic(auto)]
+
 ghost use Rattle.std.specs.Prelude.{◌≡◌, ◌^◌, ◌≤◌};
 ghost use Rattle.maths.specs.Sum.{sum};
 ghost use Rattle.sets.specs.Derived.{multiplier_count_of, multiplier_bound_of};

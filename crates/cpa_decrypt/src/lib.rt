@@ -1,4 +1,6 @@
 // Decryption of Titanium-CPA, for sets 1 to 12 (003, algorithm 3, worked as in algorithm 42).
+#![tactic(auto)]
+
 ghost use Rattle.std.specs.Prelude.{◌≡◌, ◌+◌, ◌*◌, ◌^◌, ◌≤◌, ◌<◌, length, take};
 ghost use Rattle.calls.specs.Outcome.{outcome, leaves};
 ghost use Rattle.maths.specs.Vector.{AllBelow};

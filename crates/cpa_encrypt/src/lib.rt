@@ -1,4 +1,6 @@
 // The encryption of Titanium-CPA (003, section 2.2.3, algorithm 2), worked through the transforms as in algorithm 41.
+#![tactic(auto)]
+
 ghost use Rattle.std.specs.Prelude.{◌≡◌, true, not, ◌++◌, length};
 ghost use Rattle.calls.specs.Outcome.{outcome, leaves, refuse, accepted};
 ghost use Rattle.sets.specs.Rules.{Rules, ByteRules};

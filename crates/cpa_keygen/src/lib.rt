@@ -1,4 +1,6 @@
 // Key generation of Titanium-CPA for sets 1 to 12 (003, algorithm 1, as algorithm 40 works it).
+#![tactic(auto)]
+
 ghost use Rattle.std.specs.Prelude.{◌≡◌, true, not, map, ◌*◌, ◌^◌, ◌<◌, length};
 ghost use Rattle.maths.specs.Integer.{residue};
 ghost use Rattle.calls.specs.Outcome.{outcome, accepted, refuse, leaves};

@@ -1,4 +1,6 @@
 // Uniform residues, errors and multipliers from bytes, one at a time and in turn (003, section 2.2.3, algorithms 8 to 10).
+#![tactic(auto)]
+
 pub mod small;
 pub mod uniform;
 

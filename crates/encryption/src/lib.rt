@@ -1,4 +1,6 @@
 // The encryption scheme as open calls for sets 1 to 6: key, encrypt and decrypt (01, How each call answers: Encryption scheme).
+#![tactic(auto)]
+
 ghost use Rattle.std.specs.Prelude.{◌≡◌, length};
 ghost use Rattle.calls.specs.Outcome.{outcome, leaves};
 ghost use Rattle.sets.specs.Table.{Listed};

@@ -1,4 +1,6 @@
 // The key exchange as open calls for sets 7 to 12: key, encapsulate and decapsulate (01, How each call answers: Key exchange).
+#![tactic(auto)]
+
 ghost use Rattle.std.specs.Prelude.{◌≡◌, length};
 ghost use Rattle.calls.specs.Outcome.{outcome};
 ghost use Rattle.scheme.specs.Answers.{exchange_key_answer, exchange_public_left, exchange_secret_left, exchange_key_work};

@@ -1,4 +1,6 @@
 // The open calls on bytes: SHAKE256, KMAC256 and KMACXOF256, each refused where a slice is longer than 65,536 (01, How each call answers).
+#![tactic(auto)]
+
 ghost use Rattle.std.specs.Prelude.{◌≡◌, [], ◌∷◌};
 ghost use Rattle.calls.specs.Outcome.{outcome};
 ghost use Rattle.hashes.specs.Calls.{within, shake_answer, shake_left, kmac_answer, kmac_left, kmacxof_left};

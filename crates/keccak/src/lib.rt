@@ -1,4 +1,6 @@
 // The permutation Keccak-f[1600] of FIPS 202. The lane A[x, y] of FIPS 202 is `a[y][x]`: five rows of five lanes.
+#![tactic(auto)]
+
 ghost use Rattle.std.specs.Prelude.{◌≡◌, [], ◌∷◌, ◌+◌, ◌*◌, ◌%◌, ◌<◌};
 ghost use Rattle.maths.specs.Vector.{at};
 ghost use Rattle.keccak.specs.Lane.{◌⊕◌, ◌·◌, complement, rotl, five, lane};

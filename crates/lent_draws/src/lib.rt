@@ -1,4 +1,6 @@
 // The three open draws over lent bytes: uniform residues, errors and multipliers (01, Draws over lent bytes).
+#![tactic(auto)]
+
 ghost use Rattle.std.specs.Prelude.{◌≡◌, length};
 ghost use Rattle.calls.specs.Outcome.{outcome, accepted};
 ghost use Rattle.lent_draws.specs.Calls.{refuse_shape, residues_answer, residues_left, errors_answer, errors_left, multipliers_answer, multipliers_left};

@@ -1,4 +1,6 @@
 // The transforms, which are no open calls, under plain C names, for the benchmark that sets them beside the Rust comparison (bench/).
+#![tactic(auto)]
+
 ghost use Rattle.std.specs.Prelude.{◌≡◌, ◌≤◌, length, take};
 ghost use Rattle.sets.specs.Table.{set_of, IsSet};
 ghost use Rattle.sets.specs.Derived.{transform_size_of};

@@ -1,5 +1,7 @@
 // The middle product of two slices of residues, an open call (01, Middle product), with the product places and the checks that other open calls on
 // numbers share.
+#![tactic(auto)]
+
 ghost use Rattle.std.specs.Prelude.{◌≡◌, ◌<◌, ◌≤◌, length};
 ghost use Rattle.maths.specs.Product.{middle_product_of};
 ghost use Rattle.calls.specs.Outcome.{outcome};

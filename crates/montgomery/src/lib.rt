@@ -1,4 +1,6 @@
 // Products modulo an odd q by Montgomery's reduction with 2^32 (003 section 3.4.2): no division by q, and what comes out is below 2 · q.
+#![tactic(auto)]
+
 ghost use Rattle.std.specs.Prelude.{◌≡◌, ◌+◌, ◌*◌, ◌%◌, ◌^◌, ◌<◌};
 ghost use Rattle.montgomery.specs.Scaled.{unscale, newton_step_of, lazy, lazy_long, Odd, Modulus};
 

@@ -1,4 +1,6 @@
 // Prints the noise sheet of standard input, or the line of its refusal (01, The bench sheet).
+#![tactic(auto)]
+
 ghost use Rattle.std.specs.Prelude.{◌≡◌, length};
 
 use libc::{STDIN_FILENO, STDOUT_FILENO};

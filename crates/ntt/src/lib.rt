@@ -1,5 +1,7 @@
 // The number theoretic transform of δ rows of 256 numbers, forward and inverse, in place, by columns, twist and rows (003 section 3.2.2, algorithms 36
 // and 37), for odd moduli below 2^24. The numbers between the steps are below small multiples of q; what comes out are residues.
+#![tactic(auto)]
+
 ghost use Rattle.std.specs.Prelude.{◌≡◌, ℕ, ◌+◌, ◌*◌, ◌^◌, ◌≤◌, ◌<◌, length, take};
 ghost use Rattle.maths.specs.Vector.{at, AllBelow};
 ghost use Rattle.maths.specs.Sum.{sum};

@@ -1,5 +1,7 @@
 // Butterflies: two steps of a transform in one, four values from four numbers (003 section 3.2.2, applied to a row). Reduction is lazy: what goes in is below
 // `lift`, a multiple of q and at least 2 · q; what comes out is congruent to the values and below 4 · lift.
+#![tactic(auto)]
+
 ghost use Rattle.std.specs.Prelude.{◌≡◌, ◌*◌, ◌%◌, ◌^◌, ◌<◌};
 ghost use Rattle.maths.specs.Congruence.{Mod};
 ghost use Rattle.maths.specs.Butterfly.{difference};

@@ -1,5 +1,7 @@
 // The transforms by the length of a row: rows of 256 numbers, as sets 1 to 12 have, go through `ntt`, rows of one number, as set 0 has, through
 // `ntt_plain`.
+#![tactic(auto)]
+
 ghost use Rattle.std.specs.Prelude.{◌≡◌, ℕ, ◌+◌, ◌*◌, ◌%◌, ◌^◌, ◌≤◌, ◌<◌, length, take};
 ghost use Rattle.maths.specs.Vector.{AllBelow};
 ghost use Rattle.maths.specs.Transform.{send, recover};

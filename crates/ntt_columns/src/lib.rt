@@ -1,5 +1,7 @@
 // The columns of a transform: sums of at most 16 products for each of the 256 columns (003 section 3.2.2; algorithm 36, the transforms of length δ).
 // Four rows are taken at a time, and 64 columns, so that the compiler works on several places at a time.
+#![tactic(auto)]
+
 ghost use Rattle.std.specs.Prelude.{◌≡◌, ◌+◌, ◌<◌};
 ghost use Rattle.ntt_columns.specs.Columns.{ColumnsReady, Columns};
 ghost use Rattle.ntt_columns.specs.Blocks.{four_products_of, FourReady, AddReady, Added, SumsReady, Sums, LoadReady, Loaded, ZerosFrom, BlockReady, Block};

@@ -1,4 +1,6 @@
 // The middle product of two slices of residues through the transforms, an open call (01, Middle product; 003 algorithm 35).
+#![tactic(auto)]
+
 ghost use Rattle.std.specs.Prelude.{◌≡◌, ◌≤◌, length};
 ghost use Rattle.maths.specs.Vector.{AllBelow};
 ghost use Rattle.maths.specs.Product.{middle_product_of};

@@ -1,4 +1,6 @@
 // What the transformed middle product does before any transform: the checks of the set and of the lengths (01, How each call answers), and the reversed factor.
+#![tactic(auto)]
+
 ghost use Rattle.std.specs.Prelude.{◌≡◌, ◌-◌, ◌≤◌, length};
 ghost use Rattle.maths.specs.Vector.{at, tabulate};
 ghost use Rattle.calls.specs.Outcome.{outcome, accepted};

@@ -1,5 +1,7 @@
 // The partial transform of 003 (section 3.2.2, algorithms 36 and 37) as two open calls, for any D1 rows of D2 numbers that a transform size of the set has
 // (02, No. 2).
+#![tactic(auto)]
+
 ghost use Rattle.std.specs.Prelude.{◌≡◌, length};
 ghost use Rattle.calls.specs.Outcome.{outcome};
 ghost use Rattle.ntt_partial_checks.specs.Checks.{partial_answer_of};

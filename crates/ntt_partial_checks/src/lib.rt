@@ -1,4 +1,6 @@
 // The checks of the partial transform and of its inverse (02, No. 2), and which transform of a set has a size.
+#![tactic(auto)]
+
 ghost use Rattle.std.specs.Prelude.{◌≡◌, ◌*◌};
 ghost use Rattle.calls.specs.Outcome.{outcome};
 ghost use Rattle.sets.specs.Table.{set_of};

@@ -1,5 +1,7 @@
 // The partial transform of a set's size in D1 rows of D2 numbers (003 section 3.2.2, algorithms 36 and 37): rows of 256 numbers go through the transforms that
 // the scheme uses, rows of other lengths by written-out sums.
+#![tactic(auto)]
+
 ghost use Rattle.std.specs.Prelude.{◌≡◌, ◌*◌, length, take};
 ghost use Rattle.maths.specs.Transform.{send, recover};
 ghost use Rattle.sets.specs.Table.{Listed};

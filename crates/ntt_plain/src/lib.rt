@@ -1,6 +1,8 @@
 // The number theoretic transform of any number of rows of any length by written-out sums, for any odd modulus below 2^24: columns, twist and rows (003
 // section 3.2.2, algorithms 36 and 37). Rows of other lengths than 256 go this way, those of set 0 among them. Each step divides by 2^32 on the way and keeps
 // its numbers below 2 · q; residues are made once, at the end, by a factor that makes up for these divisions.
+#![tactic(auto)]
+
 ghost use Rattle.std.specs.Prelude.{◌≡◌, ℕ, ◌*◌, ◌/◌, ◌%◌, ◌^◌, ◌≤◌, ◌<◌, length};
 ghost use Rattle.maths.specs.Root.{power_table};
 ghost use Rattle.maths.specs.Congruence.{Mod};

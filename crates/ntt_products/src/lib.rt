@@ -1,5 +1,7 @@
 // Products that go through the transforms, for every parameter set (003 section 3.2; algorithms 40 to 42).
 // A vector is lent with the places of a transform; `tables` holds those of its root, or of the inverse of its root.
+#![tactic(auto)]
+
 ghost use Rattle.std.specs.Prelude.{◌≡◌, map, ℕ, ◌+◌, ◌≤◌, ◌<◌, length, take};
 ghost use Rattle.maths.specs.Transform.{send, recover};
 ghost use Rattle.maths.specs.Vector.{AllBelow};

@@ -1,5 +1,7 @@
 // The transform of a row of 256 numbers as 16 columns of 16 numbers, a twist and 16 rows of 16 (003 section 3.2.2, applied to a row), and the rows of a
 // whole transform, forward and inverse.
+#![tactic(auto)]
+
 ghost use Rattle.ntt_rows.specs.Rows.{RowReady, Row, MultiplyReady, Multiplied, ForwardReady, ForwardRow, InverseReady, InverseRow};
 
 // Multiplies each number by the number that `by` has the scaled form of at its place.

@@ -1,4 +1,6 @@
 // Numbers that were kept below small multiples of q become residues: what a transform ends with.
+#![tactic(auto)]
+
 ghost use Rattle.std.specs.Prelude.{◌≡◌, ◌*◌, ◌%◌, ◌<◌, length};
 ghost use Rattle.maths.specs.Vector.{at, tabulate};
 ghost use Rattle.montgomery.specs.Scaled.{unscale, Modulus};

@@ -1,6 +1,8 @@
 // The steps of the transform of a row of 256 numbers: 16 transforms of 16 numbers, and the exchange of rows and columns between two such steps (003
 // section 3.2.2, applied to a row). Loops with products go over consecutive places, so that the compiler works on several at a time. Numbers are kept below
 // small multiples of q.
+#![tactic(auto)]
+
 ghost use Rattle.std.specs.Prelude.{◌≡◌, ◌+◌, ◌*◌, ◌<◌, length};
 ghost use Rattle.ntt_steps.specs.Steps.{written_apart, StepReady, Part, Parts, Quarters, SixteenReady, Sixteen, ExchangedRow, Exchanged};
 

@@ -1,5 +1,7 @@
 // The tables of a transform with rows of 256 numbers: the powers of the root in the order in which the transform takes them. They are made in place, from
 // the powers of the root one after the other.
+#![tactic(auto)]
+
 ghost use Rattle.std.specs.Prelude.{◌≡◌, ℕ, ◌+◌, ◌*◌, ◌/◌, ◌%◌, ◌≤◌, ◌<◌, length};
 ghost use Rattle.maths.specs.Vector.{AllBelow};
 ghost use Rattle.montgomery.specs.Scaled.{unscale, Odd};

@@ -1,4 +1,6 @@
 // Key on numbers (01, Key).
+#![tactic(auto)]
+
 ghost use Rattle.std.specs.Prelude.{◌≡◌, ◌<◌, ◌≤◌, ◌+◌, ◌^◌, length};
 ghost use Rattle.maths.specs.Vector.{at};
 ghost use Rattle.calls.specs.Outcome.{outcome, accepted};

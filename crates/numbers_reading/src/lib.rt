@@ -1,4 +1,6 @@
 // Reading on numbers (01, Reading).
+#![tactic(auto)]
+
 mod bits;
 
 ghost use Rattle.std.specs.Prelude.{◌≡◌, ◌<◌, ◌≤◌, ◌+◌, length};

@@ -1,4 +1,6 @@
 // Sealing on numbers (01, Sealing).
+#![tactic(auto)]
+
 ghost use Rattle.std.specs.Prelude.{◌≡◌, ◌≤◌, ◌+◌, ◌%◌, length};
 ghost use Rattle.maths.specs.Vector.{tabulate, Below};
 ghost use Rattle.calls.specs.Outcome.{outcome};

@@ -1,4 +1,6 @@
 // Parts of the sealing on numbers (01, Sealing): the check of multipliers and message, and one place of c2.
+#![tactic(auto)]
+
 ghost use Rattle.std.specs.Prelude.{◌≡◌, List, ℕ, ◌<◌, ◌≤◌, ◌+◌, length};
 ghost use Rattle.maths.specs.Vector.{at};
 ghost use Rattle.calls.specs.Outcome.{outcome};

@@ -1,4 +1,6 @@
 // Numbers packed into bytes without gaps, and back (003, algorithms 17 to 22), and the bits of a message (algorithms 27 and 28).
+#![tactic(auto)]
+
 ghost use Rattle.std.specs.Prelude.{◌≡◌, ◌+◌, ◌*◌, ◌/◌, ◌%◌, ◌^◌, ◌<◌, ◌≤◌, length, drop, take, set};
 ghost use Rattle.maths.specs.Vector.{at};
 ghost use Rattle.calls.specs.Region.{over};

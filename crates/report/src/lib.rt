@@ -1,4 +1,6 @@
 // What the programs that run known answers print: words, numbers, bytes in hexadecimal, answers of open calls, and checksums of long outputs.
+#![tactic(auto)]
+
 ghost use Rattle.std.specs.Prelude.{ℕ, ◌+◌, ◌*◌, ◌<◌, ◌≤◌, length, get_or};
 
 use calls::Answer;

@@ -1,4 +1,6 @@
 // Arithmetic modulo any q below 2^24: the one place where a number is reduced, and the rounding of a residue to a bit.
+#![tactic(auto)]
+
 ghost use Rattle.std.specs.Prelude.{◌≡◌, ◌+◌, ◌-◌, ◌*◌, ◌/◌, ◌%◌, ◌^◌, ◌≤◌, ◌<◌, pos, ◌+ℤ◌, nat_abs};
 ghost use Rattle.maths.specs.Integer.{residue};
 ghost use Rattle.maths.specs.Rounding.{threshold_bit_of};

@@ -1,4 +1,6 @@
 // The powers of the roots of unity of every set: which table serves which set. The tables stand in the crates roots_bench to roots_super256.
+#![tactic(auto)]
+
 ghost use Rattle.std.specs.Prelude.{◌≡◌, length};
 ghost use Rattle.sets.specs.Table.{Listed};
 ghost use Rattle.sets.specs.Derived.{transform_size_of, root_powers};

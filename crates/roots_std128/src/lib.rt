@@ -1,4 +1,6 @@
 // The powers of the roots of sets 3 and 9. Written by root_tables, not by hand.
+#![tactic(auto)]
+
 ghost use Rattle.std.specs.Prelude.{◌≡◌, length};
 ghost use Rattle.maths.specs.Root.{power_table};
 ghost use Rattle.sets.specs.Table.{set_of};

@@ -1,5 +1,7 @@
 // Runs a script of the arithmetic layer: key, sealing and reading on numbers, the middle products and the transforms, whole and partial. Two stores hold
 // what the calls are given: residues and bits, and signed numbers.
+#![tactic(auto)]
+
 mod fills;
 mod names;
 mod open;

@@ -1,5 +1,7 @@
 // Runs a script of the bytes layer: SHAKE256 and KMAC, the draws over lent bytes and the draws from a seed. Two stores hold the bytes that the calls are
 // given and those that the hashes write.
+#![tactic(auto)]
+
 mod lent;
 mod seeded;
 mod sponges;

@@ -1,5 +1,7 @@
 // Runs a script of calls of the encryption scheme, of the key exchange and of the noise sheet. Standard input holds the script, which the Rust comparison
 // writes beside what must be printed.
+#![tactic(auto)]
+
 mod inner;
 mod made;
 mod patterns;

@@ -1,4 +1,6 @@
 // The draws from a seed: uniform residues block after block, errors and multipliers (003, section 2.2.3, algorithms 6 to 10; specs/Seeded.antt).
+#![tactic(auto)]
+
 ghost use Rattle.std.specs.Prelude.{◌≡◌, List, map, ℕ, ◌+◌, ◌*◌, ◌^◌, ◌≤◌, ◌<◌, length};
 ghost use Rattle.maths.specs.Integer.{residue};
 ghost use Rattle.sets.specs.Rules.{Rules, ByteRules};

@@ -1,4 +1,6 @@
 // Titanium 1.1 as 003 defines it, its noise and the bits read: definitions and laws. The only code is that of lengths.
+#![tactic(auto)]
+
 ghost use Rattle.std.specs.Prelude.{◌≡◌};
 ghost use Rattle.sets.specs.Rules.{Rules};
 ghost use Rattle.scheme.specs.Answers.{work_length_of};

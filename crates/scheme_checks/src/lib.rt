@@ -1,5 +1,7 @@
 // The checks of set and lengths that come before the draws of a call, the same for both schemes (01, How each call answers: Encryption scheme, Key
 // exchange; 02, No. 1). The caller hands over the set's record, so that a call looks it up once.
+#![tactic(auto)]
+
 ghost use Rattle.std.specs.Prelude.{◌≡◌, not};
 ghost use Rattle.calls.specs.Outcome.{outcome, accepted, refuse};
 ghost use Rattle.sets.specs.Table.{set_of};

@@ -1,5 +1,7 @@
 // Key, encrypt and decrypt of the encryption scheme in one call, for sets 1 to 6, with demand 3 on what they give (01, What demand 3 speaks of): the self-test
 // of a delivery.
+#![tactic(auto)]
+
 ghost use Rattle.std.specs.Prelude.{◌≡◌};
 ghost use Rattle.calls.specs.Outcome.{outcome, accepted, leaves};
 ghost use Rattle.sets.specs.Table.{set_of};

@@ -1,12 +1,14 @@
 // The parameter sets of Titanium 1.1: sets 1 to 6 are Titanium-CPA, 7 to 12 Titanium-CCA (003, tables 2.1 to 2.10); set 0 is Bench (01, Sources and what is
 // built).
+#![tactic(auto)]
+
 ghost use Rattle.std.specs.Prelude.{◌≡◌};
 ghost use Rattle.sets.specs.Table.{set_of};
 
 pub mod derived;
 
 // The numbers of one set, under the names of 003.
-#[derive(Drop)]
+#[derive(Clone, Copy)]
 pub struct Parameters {
     // 1 for a set of the encryption scheme, 2 for one of the key exchange, 0 for Bench
     pub scheme: u32,

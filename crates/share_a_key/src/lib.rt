@@ -1,5 +1,7 @@
 // Key, encapsulate and decapsulate of the key exchange in one call, for sets 7 to 12, with demand 3 on what they give (01, What demand 3 speaks of): the
 // self-test of a delivery.
+#![tactic(auto)]
+
 ghost use Rattle.std.specs.Prelude.{◌≡◌};
 ghost use Rattle.calls.specs.Outcome.{outcome, accepted, leaves};
 ghost use Rattle.sets.specs.Table.{set_of};

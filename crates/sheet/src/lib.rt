@@ -1,4 +1,6 @@
 // The bench sheet (01, The bench sheet): from the bytes of an input to the bytes of its text.
+#![tactic(auto)]
+
 mod text;
 
 ghost use Rattle.std.specs.Prelude.{◌≡◌, cond, ◌≤◌, length, replicate};

@@ -1,4 +1,6 @@
 // The rows of a bench sheet of set 0 (01, The bench sheet): from the bytes of an input to the noise, the bits sent and the bits read.
+#![tactic(auto)]
+
 mod bytes;
 mod steps;
 

@@ -1,4 +1,6 @@
 // The noise of every place of a sealing, as exact whole numbers (01, Noise; crates/scheme/specs/Noise.antt), for sets 1 to 12.
+#![tactic(auto)]
+
 ghost use Rattle.std.specs.Prelude.{◌≡◌, true, ℕ, ◌^◌, ◌<◌, pos, nat_abs, length, get_or};
 ghost use Rattle.maths.specs.Vector.{at};
 ghost use Rattle.sets.specs.Rules.{Rules, ByteRules};

@@ -1,4 +1,6 @@
 // The parts of the bench sheet that need no rows: the checks of an input, its set byte and its length, and the text of rows that are filled.
+#![tactic(auto)]
+
 ghost use Rattle.std.specs.Prelude.{◌≡◌, ◌≤◌, length};
 ghost use Rattle.calls.specs.Outcome.{outcome, accepted};
 ghost use Rattle.sets.specs.Table.{set_of};

@@ -1,4 +1,6 @@
 // The rows of a bench sheet (01, The bench sheet): the noise, the bits sent and the bits read of an input whose set byte and length are checked.
+#![tactic(auto)]
+
 mod seeded;
 
 ghost use Rattle.std.specs.Prelude.{◌≡◌, true, length};

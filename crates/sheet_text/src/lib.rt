@@ -1,4 +1,6 @@
 // The text of the bench sheet, from the noise and the bits of a sealing (01, The bench sheet), and the text of a refusal.
+#![tactic(auto)]
+
 mod append;
 mod rows;
 

@@ -1,4 +1,6 @@
 // SHAKE256 of FIPS 202, and KMAC256 and KMACXOF256 of SP 800-185, on bytes.
+#![tactic(auto)]
+
 ghost use Rattle.std.specs.Prelude.{◌≡◌, ◌++◌, ◌≤◌, length};
 ghost use Rattle.sponge.specs.Sponge.{shake256};
 ghost use Rattle.sponge.specs.Kmac.{kmac256, kmacxof256};

@@ -1,0 +1,40 @@
+-- `c2_walk::fill` meets its contract: after j turns the first j places are finished, and the rest is as it was before the walk.
+-- Assumes nothing.
+use mathlib.Core.Path.{◌≡◌, sym, ◌∙◌}
+use Prim.Native.Nat.{◌-◌}
+use native.Mathlib.Omega.{arith}
+use lib.ListN.{length}
+use Rattle.c2_place.proofs.Laws.{walked_none, walked_length, walked_all}
+use Rattle.c2_walk.proofs.Finished.{finished_length}
+use Rattle.c2_walk.proofs.fill.Goals as goal
+
+-- c2 keeps its length
+kept : (c : goal.At-loop-j) → length c.loop-j.c2 ≡ length c.args.c2.now
+kept c =
+    let args = c.args in
+    walked_length c.loop-j.invariant
+    ∙ finished_length args.q args.by args.half args.count (length args.c2.now) args.rows.now args.message.now
+
+pub loop-j-init : goal.loop-j-init
+loop-j-init c =
+    let args = c.args in
+    walked_none (sym (finished_length args.q args.by args.half args.count (length args.c2.now) args.rows.now args.message.now))
+
+pub finish_place-requires : goal.finish_place-requires
+finish_place-requires c =
+    (rw (kept c.before.before) c.requires, c.loop-j-test.true)
+
+pub loop-j-smaller : goal.loop-j-smaller
+loop-j-smaller c =
+    omega (arith, c.loop-j-test.true, kept c.before.before.before.before.before)
+
+pub loop-j-preserved : goal.loop-j-preserved
+loop-j-preserved c =
+    (rw (kept c.before.before.before.before.before) at c.finish_place.ensures) _ c.loop-j.invariant
+
+pub shape_of-c2 : goal.shape_of-c2
+shape_of-c2 c = kept c.before
+
+pub returns : goal.returns
+returns c =
+    walked_all c.loop-j.invariant (omega (arith, c.loop-j-test.false, walked_length c.loop-j.invariant))

@@ -1,0 +1,9 @@
+-- `c_draws::titanium_draw_errors` gives the answer of the call in one number, and leaves what the call leaves.
+-- Assumes nothing.
+use mathlib.Core.Path.{ap, ◌∙◌}
+use Rattle.c_answer.specs.Coded.{coded}
+use Rattle.c_draws.proofs.titanium_draw_errors.Goals as goal
+
+pub returns : goal.returns
+returns c =
+    let made = c.errors.ensures in record { answer = c.code.ensures ∙ ap coded made.0; result = made.1 }

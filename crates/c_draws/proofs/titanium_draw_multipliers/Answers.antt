@@ -1,0 +1,9 @@
+-- `c_draws::titanium_draw_multipliers` gives the answer of the call in one number, and leaves what the call leaves.
+-- Assumes nothing.
+use mathlib.Core.Path.{ap, ◌∙◌}
+use Rattle.c_answer.specs.Coded.{coded}
+use Rattle.c_draws.proofs.titanium_draw_multipliers.Goals as goal
+
+pub returns : goal.returns
+returns c =
+    let made = c.multipliers.ensures in record { answer = c.code.ensures ∙ ap coded made.0; result = made.1 }

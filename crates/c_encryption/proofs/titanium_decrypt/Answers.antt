@@ -1,0 +1,9 @@
+-- `c_encryption::titanium_decrypt` gives the answer of the call in one number, and leaves what the call leaves.
+-- Assumes nothing.
+use mathlib.Core.Path.{ap, ◌∙◌}
+use Rattle.c_answer.specs.Coded.{coded}
+use Rattle.c_encryption.proofs.titanium_decrypt.Goals as goal
+
+pub returns : goal.returns
+returns c =
+    let made = c.decrypt.ensures in let whole = (c.code.ensures ∙ ap coded made.0, made.1) in record { answer = whole.0; read = whole.1; cleared = whole.2 }

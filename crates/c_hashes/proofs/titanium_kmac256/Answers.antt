@@ -1,0 +1,9 @@
+-- `c_hashes::titanium_kmac256` gives the answer of the call in one number, and leaves what the call leaves.
+-- Assumes nothing.
+use mathlib.Core.Path.{ap, ◌∙◌}
+use Rattle.c_answer.specs.Coded.{coded}
+use Rattle.c_hashes.proofs.titanium_kmac256.Goals as goal
+
+pub returns : goal.returns
+returns c =
+    let made = c.kmac256.ensures in record { answer = c.code.ensures ∙ ap coded made.0; result = made.1 }

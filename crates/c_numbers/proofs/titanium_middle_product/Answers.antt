@@ -1,0 +1,9 @@
+-- `c_numbers::titanium_middle_product` gives the answer of the call in one number, and leaves what the call leaves.
+-- Assumes nothing.
+use mathlib.Core.Path.{ap, ◌∙◌}
+use Rattle.c_answer.specs.Coded.{coded}
+use Rattle.c_numbers.proofs.titanium_middle_product.Goals as goal
+
+pub returns : goal.returns
+returns c =
+    let made = c.middle_product.ensures in record { answer = c.code.ensures ∙ ap coded made.0; left = made.1 }

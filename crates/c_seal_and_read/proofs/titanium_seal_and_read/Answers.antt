@@ -1,0 +1,15 @@
+-- `c_seal_and_read::titanium_seal_and_read` gives the answer of the call in one number, and leaves what the call leaves.
+-- Assumes nothing.
+use mathlib.Core.Path.{ap, ◌∙◌}
+use Rattle.seal_and_read.specs.Answers.{seal_and_read_public, seal_and_read_secret, seal_and_read_ciphertext, seal_and_read_message}
+use Rattle.c_answer.specs.Coded.{coded}
+use Rattle.c_seal_and_read.proofs.titanium_seal_and_read.Goals as goal
+
+pub returns : goal.returns
+unfolding seal_and_read_public seal_and_read_secret seal_and_read_ciphertext seal_and_read_message
+returns c =
+    let made = c.seal_and_read.ensures in
+    let public = rw made.0 at made.1.0 in
+    let secret = rw made.0 at made.1.1.0 in
+    let sealed = rw made.0 at made.1.1.1.0 in
+    let read = rw made.0 at made.1.1.1.1.0 in let whole = (c.code.ensures ∙ ap coded made.0, (public, (secret, (sealed, (read, made.1.1.1.1.1.0))))) in record { answer = whole.0; given = whole.1; kept = whole.2; sent = whole.3; opened = whole.4; cleared = whole.5 }

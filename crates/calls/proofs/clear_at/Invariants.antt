@@ -1,0 +1,12 @@
+-- `calls::clear_at` meets its contract: after i turns the first i of n zeros stand in place.
+-- Assumes nothing.
+use Prim.Native.Nat.{◌-◌}
+use lib.ListN.{replicate}
+use Rattle.calls.proofs.Filled.{Filled}
+use Rattle.calls.proofs.clear_at.Given as goal
+
+abbrev pub invariant-loop-i : goal.invariant-loop-i
+invariant-loop-i l = Filled l.initial.work l.at l.n (replicate l.n 0) l.i l.work
+
+abbrev pub decreases-loop-i : goal.decreases-loop-i
+decreases-loop-i l = l.n - l.i

@@ -1,0 +1,113 @@
+-- The secret is drawn; where the draw is refused nothing is written, else the message is read with it.
+-- Assumes nothing.
+use mathlib.Core.Path.{◌≡◌, sym, ap, subst⁻¹, ◌∙◌}
+use mathlib.Core.List.{List, ◌++◌}
+use Prim.Native.Nat.{ℕ, ◌-◌, ◌≤◌}
+use native.Mathlib.Omega.{arith}
+use lib.ListN.{length, take, drop}
+use Rattle.calls.specs.Outcome.{refused}
+use Rattle.calls.proofs.Outcome.{refused_call, accepted_call}
+use Rattle.sets.specs.declared.Parameters.{Parameters}
+use Rattle.sets.specs.Derived.{transform_size_of}
+use Rattle.sets.proofs.Rules.{listed_rules}
+use Rattle.samplers.specs.declared.Advance.TheVariants.{Counter}
+use Rattle.byte_source.specs.Source.{state_at, initial}
+use Rattle.samplers.specs.Blocks.{uniform, uniform_answer, onward, refused_by}
+use Rattle.samplers.proofs.Laws.{Onto, answer_onto, answer_refusal}
+use Rattle.ntt_products.specs.Placed.{Placed}
+use Rattle.scheme.specs.Encryption.{stored_secret}
+use Rattle.cpa_decrypt.specs.Decrypted.{decrypted_message_from}
+use Rattle.cpa_decrypt.proofs.Bits.{opened_message}
+use Rattle.cpa_decrypt.proofs.Secret.{secret_taken, secret_refused, secret_placed}
+use Rattle.calls.proofs.Parts.{front_length, part_front, front_room}
+use Rattle.cpa_decrypt.proofs.Room.{secret_room}
+use borrow.Author.Rules.{rules}
+use Rattle.cpa_decrypt.proofs.decrypt.Goals as goal
+
+pub slice_bounds-residues_from-end : goal.slice_bounds-residues_from-end
+slice_bounds-residues_from-end c = rw c.requires.5 (secret_room c.args.p)
+
+pub residues_from-drawn-requires : goal.residues_from-drawn-requires
+residues_from-drawn-requires c =
+    let p = c.args.p in
+    let kept = listed_rules p c.requires.1 in
+    let bytes = c.requires.0 in
+    let room = rw (← c.requires.5) at (secret_room p) in let whole = rw (front_length c.args.work.now p.d3 room) (
+      (kept, omega (arith, c.requires.2), bytes.some_bytpcs, bytes.most_bytpcs),
+      (omega (arith, kept.holds3, kept.some_n, kept.some_d, kept.some_k), omega (arith, kept.most_d3)),
+    ) in record { rules = whole.0; out_nonzero = whole.1 }
+
+-- after the draw: the secret's seed, the set's parameters, the work slice before, and what the left at its front
+module _ (c : goal.After-residues_from-drawn) where
+  abbrev seed : List ℕ
+  seed = c.args.seed.now
+
+  abbrev p : Parameters
+  p = c.args.p
+
+  abbrev work : List ℕ
+  work = c.args.work.now
+
+  abbrev drawn : List ℕ
+  drawn = c.residues_from-drawn.new.out
+
+  -- a stored secret has room
+  room : p.d3 ≤ length work
+  room = omega (arith, c.requires.5, secret_room p)
+
+  -- as many numbers are drawn as it has
+  drawn_length : length drawn ≡ p.d3
+  drawn_length = omega (arith, c.residues_from-drawn.auto, front_length work p.d3 room)
+
+  -- the is the one that the definition makes
+  answered : uniform_answer p (initial seed) p.bytpcs p.d3 ≡ onward seed c.residues_from-drawn.result
+  answered = sym (rw (front_length work p.d3 room) at c.residues_from-drawn.ensures.0)
+
+  module _ {next : ℕ} (told : c.residues_from-drawn.result ≡ Counter next) where
+    -- a with a counter has its numbers
+    secret : Onto (uniform p (initial seed) p.bytpcs p.d3).drawn (uniform p (initial seed) p.bytpcs p.d3).next (state_at seed next)
+    secret = answer_onto p (initial seed) p.bytpcs p.d3 (state_at seed next) (answered ∙ ap (onward seed) told)
+
+    -- the front of the work slice is the secret as it is stored
+    stored : take (p.d3 - 0) (drawn ++ drop (p.d3 - 0) work) ≡ stored_secret p seed
+    stored =
+        part_front drawn _ p.d3 drawn_length
+        ∙ c.residues_from-drawn.ensures.1 secret.xs
+        (ap (λ (n : ℕ). (uniform p (initial seed) p.bytpcs n).drawn) (front_length work p.d3 room) ∙ secret.drawn_is)
+        ∙ sym (secret_taken p seed secret.xs secret.drawn_is).1
+
+    -- which may be correlated with
+    stored_placed : Placed p 3 (transform_size_of p 3) (stored_secret p seed)
+    stored_placed =
+        rw (secret_taken p seed secret.xs secret.drawn_is).1
+        (secret_placed p c.requires.1 seed secret.xs secret.drawn_is)
+
+pub slice_bounds-read-end : goal.slice_bounds-read-end
+slice_bounds-read-end c = front_room (drawn c.before.before.before.before) _ (p c.before.before.before.before).d3 (drawn_length c.before.before.before.before)
+
+pub read-requires : goal.read-requires
+read-requires c =
+    let told = c.in-Counter.is in (
+      c.requires.0,
+      c.requires.1,
+      c.requires.3,
+      subst⁻¹ (λ (l : List ℕ). Placed (p c.before.before.before.before.before.before) 3 (transform_size_of (p c.before.before.before.before.before.before) 3) l) (stored c told) (stored_placed c told),
+      c.requires.4,
+    )
+
+pub returns-in_default : goal.returns-in_default
+returns-in_default c =
+    let told = c.in_default.is in
+    let bytes = c.requires.0 in
+    let none = answer_refusal (p c.before.before.before.before.before) (initial (seed c.before.before.before.before.before)) (p c.before.before.before.before.before).bytpcs (p c.before.before.before.before.before).d3 bytes.some_bytpcs _ (answered c.before.before.before.before.before ∙ ap (onward (seed c.before.before.before.before.before)) told) in
+    let five = c.refusal_of.ensures ∙ ap refused_by told ∙ none.0 in
+    let call = refused_call _ _ (secret_refused (p c.before.before.before.before.before) (seed c.before.before.before.before.before) none.1) in record { answer = ap (λ (k : ℕ). refused k 0) five ∙ call.0; read = call.1 }
+
+pub returns : goal.returns
+returns c =
+    let ct = c.args.ciphertext.now in
+    let told = c.in-Counter.is in
+    let found = secret c told in let whole = accepted_call _ _ (secret_taken (p c.before.before.before.before.before.before.before.before.before) (seed c.before.before.before.before.before.before.before.before.before) found.xs found.drawn_is).0
+    (c.read.ensures
+    ∙ ap (λ (l : List ℕ). decrypted_message_from (p c.before.before.before.before.before.before.before.before.before) l ct) (stored c told)
+    ∙ opened_message (p c.before.before.before.before.before.before.before.before.before) (seed c.before.before.before.before.before.before.before.before.before) ct) in record { answer = whole.0; read = whole.1 }

@@ -1,0 +1,76 @@
+-- After i turns the products of the first i polynomials are added up.
+-- Assumes nothing.
+use mathlib.Core.Path.{refl, sym, ap, ◌∙◌}
+use Prim.Native.Nat.{ℕ, ◌-◌, ◌<◌}
+use native.Mathlib.Omega.{arith}
+use Rattle.calls.specs.Outcome.{refused}
+use Rattle.calls.proofs.Outcome.{accepted_refused}
+use Rattle.byte_source.specs.Source.{state_at}
+use Rattle.samplers.specs.Blocks.{onward, refused_by}
+use Rattle.sets.proofs.Rules.{listed_rules}
+use Rattle.ntt_products.proofs.Laws.{rules_odd}
+use Rattle.cpa_encrypt.proofs.Adding.{adding_none, adding_more, adding_addends, adding_all}
+use Rattle.cpa_encrypt.proofs.Adding.{PolynomialSent, polynomial_sent, polynomial_refused, counter_small}
+use Rattle.cpa_encrypt.proofs.first.sum_products.Goals as goal
+
+pub negated_inverse-k-requires : goal.negated_inverse-k-requires
+negated_inverse-k-requires c =
+    rules_odd c.args.p (listed_rules c.args.p c.requires.1)
+
+pub loop-i-init : goal.loop-i-init
+loop-i-init c = adding_none c.args.p c.requires.1 _ _ _ _ _ c.requires.5 c.requires.6 c.requires.7
+
+-- a is one of t
+turn_below : (c : goal.In-loop-i) → c.loop-i.i < c.args.p.t
+turn_below c = omega (arith, c.loop-i-test.true)
+
+pub send_multipliers-requires : goal.send_multipliers-requires
+send_multipliers-requires c =
+    let pre = c.requires in
+    (pre.1, pre.4, pre.3, turn_below c.before, c.loop-i.invariant.x_size)
+
+pub send_drawn-drawn-requires : goal.send_drawn-drawn-requires
+send_drawn-drawn-requires c =
+    let pre = c.requires in
+    let inv = c.loop-i.invariant in
+    let small = counter_small c.args.p pre.1 c.args.seed.now c.args.multipliers.now pre.0 inv.within inv.reached in
+    (pre.0, pre.1, pre.4, pre.2, small, inv.y_size)
+
+pub returns-in_default : goal.returns-in_default
+returns-in_default c =
+    let this = c.loop-i in
+    let refusal = c.in_default.is in
+    let none =
+    polynomial_refused c.args.p c.requires.1 c.args.seed.now c.args.multipliers.now _ this.i this.invariant.reached _ c.requires.0
+    (turn_below c.before.before.before.before.before.before.before.before.before.before.before) (sym c.send_drawn-drawn.ensures.0 ∙ ap (onward c.args.seed.now) refusal) in
+    let answer = ap (λ (k : ℕ). refused k 0) (c.refusal_of.ensures ∙ ap refused_by refusal) in record { answer = answer ∙ none; result = λ e. absurd (accepted_refused e refl) }
+
+-- the polynomial of a is drawn and sent
+sent_here : (c : goal.In-Counter-2) → PolynomialSent c.args.p c.args.seed.now c.loop-i.i
+    (state_at c.args.seed.now c.in-Counter.next) c.send_drawn-drawn.new.y
+sent_here c =
+    let this = c.loop-i in
+    let draw = c.send_drawn-drawn.ensures in
+    polynomial_sent c.args.p c.requires.1 c.args.seed.now c.args.multipliers.now _ this.i this.invariant.reached _ _
+    (sym draw.0 ∙ ap (onward c.args.seed.now) c.in-Counter.is) draw.1
+
+pub accumulate-requires : goal.accumulate-requires
+accumulate-requires c =
+    adding_addends c.args.p c.requires.1 c.args.seed.now c.args.multipliers.now c.negated_inverse-k.ensures
+    c.loop-i.invariant c.send_multipliers.ensures (sent_here c.before.before).y_is
+
+pub overflow_add-i : goal.overflow_add-i
+overflow_add-i c =
+    omega (arith, c.loop-i-test.taken, (listed_rules c.args.p c.requires.1).most_t)
+
+pub loop-i-smaller : goal.loop-i-smaller
+loop-i-smaller c = omega (arith, c.loop-i-test.taken)
+
+pub loop-i-preserved : goal.loop-i-preserved
+loop-i-preserved c =
+    adding_more c.args.p c.requires.1 c.args.seed.now c.args.multipliers.now _ _ _ _ c.loop-i.invariant (turn_below c.before.before.before.before.before.before.before.before.before.before.before.before.before.before.before)
+    (sent_here c.before.before.before.before.before) c.send_multipliers.ensures c.accumulate.ensures
+
+pub returns : goal.returns
+returns c =
+    let whole = adding_all c.args.p c.requires.1 c.args.seed.now c.args.multipliers.now c.loop-i.invariant (omega (arith, c.loop-i-test.false)) in record { answer = whole.0; result = whole.1 }

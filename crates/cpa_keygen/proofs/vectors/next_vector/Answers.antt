@@ -1,0 +1,48 @@
+-- A polynomial that is drawn gives the vector; a refused draw gives none.
+-- Assumes nothing.
+use mathlib.Core.Path.{sym, ap, ◌∙◌}
+use Prim.Native.Nat.{◌+◌, ◌*◌}
+use Rattle.calls.specs.Region.{over}
+use Rattle.samplers.specs.Blocks.{onward}
+use Rattle.samplers.specs.Seeded.{public_drawn}
+use Rattle.cpa_keygen.specs.Held.{vectors_start_of}
+use Rattle.cpa_keygen.proofs.Drawn.{true_false, advanced, stopped, public_never_ends}
+use Rattle.cpa_keygen.proofs.KeyVectors.{polynomial_placed, vector_below, stored_is}
+use Rattle.cpa_keygen.proofs.vectors.next_vector.Goals as goal
+
+pub returns-in_default : goal.returns-in_default
+returns-in_default c =
+    let p = c.args.p in
+    let seed = c.args.seed.now in
+    let none =
+    stopped _ _ (public_drawn p seed c.args.i) (λ xs run. public_never_ends p c.requires.0 seed xs run c.args.i)
+    (sym (ap (onward seed) c.in_default.is) ∙ c.draw_polynomial-drawn.ensures.0) in record { answer = c.draw_polynomial-drawn.ensures.0; result = λ t. absurd (true_false t none.not_taken) }
+
+pub key_vector-requires : goal.key_vector-requires
+key_vector-requires c =
+    let pre = c.requires in
+    let p = c.args.p in
+    let seed = c.args.seed.now in
+    let polynomial = c.draw_polynomial-drawn in
+    let drawn = advanced _ _ (public_drawn p seed c.args.i) (sym (ap (onward seed) c.in-Counter.is) ∙ polynomial.ensures.0) in
+    let placed =
+    polynomial_placed p pre.1 seed polynomial.last.1.1.1.1.0 c.args.i (polynomial.auto.x ∙ pre.7)
+    (polynomial.ensures.1 drawn.all_taken_lem) in
+    (pre.0, pre.1, pre.3, pre.5, placed, pre.8)
+
+pub store_vector-requires : goal.store_vector-requires
+store_vector-requires c =
+    let pre = c.requires in
+    let vector = c.key_vector in
+    let size = vector.auto.x ∙ c.draw_polynomial-drawn.auto.x ∙ pre.7 in
+    let below = vector_below c.args.p pre.1 vector.new.x _ c.args.work.now c.args.i vector.ensures in
+    (pre.0, pre.1, pre.3, pre.6, size, below, pre.8.size)
+
+pub returns : goal.returns
+returns c =
+    let p = c.args.p in
+    let work = c.args.work.now in
+    let polynomial = c.draw_polynomial-drawn in record { answer = polynomial.ensures.0; result = λ t.
+          c.store_vector.ensures
+          ∙ ap (over work (vectors_start_of p + p.d1 * c.args.i))
+          (stored_is p c.args.seed.now work _ _ c.args.i c.key_vector.ensures (polynomial.ensures.1 t)) }

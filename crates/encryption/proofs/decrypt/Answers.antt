@@ -1,0 +1,57 @@
+-- `encryption::decrypt` meets its contract: the checks come in the order of the definition, and the work slice is cleared.
+-- Assumes nothing.
+use mathlib.Core.Path.{◌≡◌, sym, ap, ◌∙◌}
+use Prim.Native.Nat.{ℕ}
+use lib.ListN.{length, replicate}
+use Rattle.calls.specs.Outcome.{outcome, accepted}
+use Rattle.sets.specs.Table.{set_of}
+use Rattle.sets.proofs.Schemes.{encryption_only}
+use Rattle.sets.proofs.Lengths.{secret_other, ciphertext_other}
+use Rattle.scheme.specs.Encryption.{decrypted_message}
+use Rattle.sets.specs.Derived.{is_encryption}
+use Rattle.scheme.specs.Answers.{decrypt_checks, decrypt_draws, decrypt_answer, message_left, decrypt_work}
+use Rattle.scheme.proofs.Answers.{own_listed, own_bytes, decrypt_passed}
+use Rattle.scheme_checks.proofs.Laws.{one_refused, one_drawn}
+use Rattle.encryption.proofs.decrypt.Goals as goal
+
+pub decrypt_checked-checked-requires : goal.decrypt_checked-checked-requires
+decrypt_checked-checked-requires c = c.parameters_of-p.ensures
+
+-- the checks passed
+passed : (c : goal.In-Done) → let args = c.args in
+    decrypt_checks is_encryption args.set (length args.secret.now) (length args.ciphertext.now) (length args.message.now)
+    (length args.work.now) ≡ accepted
+unfolding is_encryption
+passed c = sym c.decrypt_checked-checked.ensures ∙ ap outcome c.in-Done.is
+
+pub returns-in_default : goal.returns-in_default
+unfolding is_encryption decrypt_answer message_left decrypt_work
+returns-in_default c =
+    let args = c.args in
+    let p = set_of args.set in let whole = one_refused (decrypt_draws p args.secret.now args.ciphertext.now) args.work.now
+    (decrypted_message p args.secret.now args.ciphertext.now) args.message.now
+    c.decrypt_checked-checked.ensures (ap outcome c.in_default.is) in record { answer = whole.0; read = whole.1; cleared = whole.2 }
+
+pub decrypt_if_below-answer-requires : goal.decrypt_if_below-answer-requires
+decrypt_if_below-answer-requires c =
+    let set = c.args.set in
+    let fit = decrypt_passed is_encryption set _ _ _ _ (passed c.before.before) in
+    let other = encryption_only set fit.0.2 in
+    rw c.parameters_of-p.ensures (
+      own_bytes is_encryption set fit.0,
+      own_listed is_encryption set fit.0,
+      fit.1 ∙ secret_other set other,
+      fit.2 ∙ ciphertext_other set other,
+      fit.3,
+      fit.4,
+    )
+
+pub returns : goal.returns
+unfolding decrypt_answer message_left decrypt_work
+returns c =
+    let args = c.args in
+    let p = set_of args.set in
+    let made = c.decrypt_if_below-answer in
+    let left = rw c.parameters_of-p.ensures at made.ensures in let whole = one_drawn (decrypt_draws p args.secret.now args.ciphertext.now) args.work.now
+    (decrypted_message p args.secret.now args.ciphertext.now) args.message.now
+    (passed c.before.before.before.before.before.before.before.before.before.before.before) left (c.clear.ensures ∙ ap (λ (n : ℕ). replicate n 0) made.auto.work) in record { answer = whole.0; read = whole.1; cleared = whole.2 }

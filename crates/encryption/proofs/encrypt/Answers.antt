@@ -1,0 +1,57 @@
+-- `encryption::encrypt` meets its contract: the checks come in the order of the definition, and the work slice is cleared.
+-- Assumes nothing.
+use mathlib.Core.Path.{◌≡◌, sym, ap, ◌∙◌}
+use Prim.Native.Nat.{ℕ}
+use lib.ListN.{length, replicate}
+use Rattle.calls.specs.Outcome.{outcome, accepted}
+use Rattle.sets.specs.Table.{set_of}
+use Rattle.sets.specs.Derived.{is_encryption}
+use Rattle.sets.proofs.Schemes.{encryption_only}
+use Rattle.sets.proofs.Lengths.{ciphertext_other}
+use Rattle.scheme.specs.Encryption as scheme
+use Rattle.scheme.specs.Answers.{encrypt_checks, encrypt_draws, encrypt_answer, ciphertext_left, encrypt_work}
+use Rattle.scheme.proofs.Answers.{own_listed, own_bytes, encrypt_passed}
+use Rattle.scheme_checks.proofs.Laws.{one_refused, one_drawn}
+use Rattle.encryption.proofs.encrypt.Goals as goal
+
+pub encrypt_checked-checked-requires : goal.encrypt_checked-checked-requires
+encrypt_checked-checked-requires c = c.parameters_of-p.ensures
+
+-- the checks passed
+passed : (c : goal.In-Done) → let args = c.args in
+    encrypt_checks is_encryption args.set (length args.public.now) (length args.message.now) (length args.seed.now)
+    (length args.ciphertext.now) (length args.work.now) ≡ accepted
+unfolding is_encryption
+passed c = sym c.encrypt_checked-checked.ensures ∙ ap outcome c.in-Done.is
+
+pub returns-in_default : goal.returns-in_default
+unfolding is_encryption encrypt_answer ciphertext_left encrypt_work
+returns-in_default c =
+    let args = c.args in
+    let p = set_of args.set in let whole = one_refused (encrypt_draws p args.public.now) args.work.now
+    (scheme.ciphertext p args.public.now args.message.now args.seed.now) args.ciphertext.now
+    c.encrypt_checked-checked.ensures (ap outcome c.in_default.is) in record { answer = whole.0; given = whole.1; cleared = whole.2 }
+
+pub encrypt-answer-requires : goal.encrypt-answer-requires
+encrypt-answer-requires c =
+    let set = c.args.set in
+    let fit = encrypt_passed is_encryption set _ _ _ _ _ (passed c.before.before) in
+    rw c.parameters_of-p.ensures (
+      own_bytes is_encryption set fit.0,
+      own_listed is_encryption set fit.0,
+      fit.1,
+      fit.2,
+      fit.3,
+      fit.4 ∙ ciphertext_other set (encryption_only set fit.0.2),
+      fit.5,
+    )
+
+pub returns : goal.returns
+unfolding encrypt_answer ciphertext_left encrypt_work
+returns c =
+    let args = c.args in
+    let p = set_of args.set in
+    let made = c.encrypt-answer in
+    let left = rw c.parameters_of-p.ensures at made.ensures in let whole = one_drawn (encrypt_draws p args.public.now) args.work.now
+    (scheme.ciphertext p args.public.now args.message.now args.seed.now) args.ciphertext.now
+    (passed c.before.before.before.before.before.before.before.before.before.before.before) left (c.clear.ensures ∙ ap (λ (n : ℕ). replicate n 0) made.auto.work) in record { answer = whole.0; given = whole.1; cleared = whole.2 }

@@ -1,0 +1,58 @@
+-- `encryption::key` meets its contract: the checks come in the order of the definition, and the work slice is cleared.
+-- Assumes nothing.
+use mathlib.Core.Path.{◌≡◌, sym, ap, ◌∙◌}
+use Prim.Native.Nat.{ℕ}
+use lib.ListN.{length, replicate}
+use Rattle.calls.specs.Outcome.{outcome, accepted}
+use Rattle.sets.specs.Table.{set_of}
+use Rattle.sets.proofs.Schemes.{encryption_only}
+use Rattle.sets.proofs.Lengths.{secret_other}
+use Rattle.scheme.specs.Encryption.{secret_seed, public_key}
+use Rattle.sets.specs.Derived.{is_encryption}
+use Rattle.scheme.specs.Answers.{key_checks, key_draws, encryption_key_answer, encryption_public_left, encryption_secret_left, encryption_key_work}
+use Rattle.scheme.proofs.Answers.{own_listed, own_bytes, key_passed}
+use Rattle.scheme_checks.proofs.Laws.{two_refused, two_drawn}
+use Rattle.encryption.proofs.key.Goals as goal
+
+pub key_checked-checked-requires : goal.key_checked-checked-requires
+key_checked-checked-requires c = c.parameters_of-p.ensures
+
+-- the checks passed
+passed : (c : goal.In-Done) → let args = c.args in
+    key_checks is_encryption args.set (length args.seed.now) (length args.public.now) (length args.secret.now)
+    (length args.work.now) ≡ accepted
+unfolding is_encryption
+passed c = sym c.key_checked-checked.ensures ∙ ap outcome c.in-Done.is
+
+pub returns-in_default : goal.returns-in_default
+unfolding is_encryption encryption_key_answer encryption_public_left encryption_secret_left encryption_key_work
+returns-in_default c =
+    let args = c.args in
+    let p = set_of args.set in let whole = two_refused (key_draws p args.seed.now) args.work.now
+    (public_key p args.seed.now) args.public.now
+    (secret_seed p args.seed.now) args.secret.now
+    c.key_checked-checked.ensures (ap outcome c.in_default.is) in record { answer = whole.0; given = whole.1; kept = whole.2; cleared = whole.3 }
+
+pub keygen-answer-requires : goal.keygen-answer-requires
+keygen-answer-requires c =
+    let set = c.args.set in
+    let fit = key_passed is_encryption set _ _ _ _ (passed c.before.before.before) in
+    rw c.parameters_of-p.ensures (
+      own_bytes is_encryption set fit.0,
+      own_listed is_encryption set fit.0,
+      fit.1,
+      fit.2,
+      fit.3 ∙ secret_other set (encryption_only set fit.0.2),
+      fit.4,
+    )
+
+pub returns : goal.returns
+unfolding encryption_key_answer encryption_public_left encryption_secret_left encryption_key_work
+returns c =
+    let args = c.args in
+    let p = set_of args.set in
+    let made = c.keygen-answer in
+    let left = rw c.parameters_of-p.ensures at made.ensures in let whole = two_drawn (key_draws p args.seed.now) args.work.now
+    (public_key p args.seed.now) args.public.now
+    (secret_seed p args.seed.now) args.secret.now
+    (passed c.before.before.before.before.before.before.before.before.before.before.before.before.before.before) left (c.clear.ensures ∙ ap (λ (n : ℕ). replicate n 0) made.auto.work) in record { answer = whole.0; given = whole.1; kept = whole.2; cleared = whole.3 }

@@ -1,0 +1,55 @@
+-- `exchange::decapsulate` meets its contract: the checks come in the order of the definition, and the work slice is cleared.
+-- Assumes nothing.
+use mathlib.Core.Path.{◌≡◌, sym, ap, ◌∙◌}
+use Prim.Native.Nat.{ℕ}
+use lib.ListN.{length, replicate}
+use Rattle.calls.specs.Outcome.{outcome, accepted}
+use Rattle.sets.specs.Table.{set_of}
+use Rattle.sets.proofs.Lengths.{secret_exchange, ciphertext_exchange}
+use Rattle.scheme.specs.Exchange.{decapsulated}
+use Rattle.sets.specs.Derived.{is_exchange}
+use Rattle.scheme.specs.Answers.{decrypt_checks, decapsulate_draws, decapsulate_answer, decapsulated_left, decapsulate_work}
+use Rattle.scheme.proofs.Answers.{own_listed, own_bytes, decrypt_passed}
+use Rattle.scheme_checks.proofs.Laws.{one_refused, one_drawn}
+use Rattle.exchange.proofs.decapsulate.Goals as goal
+
+pub decrypt_checked-checked-requires : goal.decrypt_checked-checked-requires
+decrypt_checked-checked-requires c = c.parameters_of-p.ensures
+
+-- the checks passed
+passed : (c : goal.In-Done) → let args = c.args in
+    decrypt_checks is_exchange args.set (length args.secret.now) (length args.ciphertext.now) (length args.shared.now)
+    (length args.work.now) ≡ accepted
+unfolding is_exchange
+passed c = sym c.decrypt_checked-checked.ensures ∙ ap outcome c.in-Done.is
+
+pub returns-in_default : goal.returns-in_default
+unfolding is_exchange decapsulate_answer decapsulated_left decapsulate_work
+returns-in_default c =
+    let args = c.args in
+    let p = set_of args.set in let whole = one_refused (decapsulate_draws p args.secret.now) args.work.now
+    (decapsulated p args.secret.now args.ciphertext.now) args.shared.now
+    c.decrypt_checked-checked.ensures (ap outcome c.in_default.is) in record { answer = whole.0; agreed = whole.1; cleared = whole.2 }
+
+pub decapsulated_key-answer-requires : goal.decapsulated_key-answer-requires
+decapsulated_key-answer-requires c =
+    let set = c.args.set in
+    let fit = decrypt_passed is_exchange set _ _ _ _ (passed c.before.before) in
+    rw c.parameters_of-p.ensures (
+      own_bytes is_exchange set fit.0,
+      own_listed is_exchange set fit.0,
+      fit.1 ∙ secret_exchange set fit.0.2,
+      fit.2 ∙ ciphertext_exchange set fit.0.2,
+      fit.3,
+      fit.4,
+    )
+
+pub returns : goal.returns
+unfolding decapsulate_answer decapsulated_left decapsulate_work
+returns c =
+    let args = c.args in
+    let p = set_of args.set in
+    let made = c.decapsulated_key-answer in
+    let left = rw c.parameters_of-p.ensures at made.ensures in let whole = one_drawn (decapsulate_draws p args.secret.now) args.work.now
+    (decapsulated p args.secret.now args.ciphertext.now) args.shared.now
+    (passed c.before.before.before.before.before.before.before.before.before.before.before) left (c.clear.ensures ∙ ap (λ (n : ℕ). replicate n 0) made.auto.work) in record { answer = whole.0; agreed = whole.1; cleared = whole.2 }

@@ -1,0 +1,58 @@
+-- `exchange::encapsulate` meets its contract: the checks come in the order of the definition, and the work slice is cleared.
+-- Assumes nothing.
+use mathlib.Core.Path.{◌≡◌, sym, ap, ◌∙◌}
+use Prim.Native.Nat.{ℕ}
+use lib.ListN.{length, replicate}
+use Rattle.calls.specs.Outcome.{outcome, accepted}
+use Rattle.sets.specs.Table.{set_of}
+use Rattle.sets.specs.Derived.{is_exchange}
+use Rattle.sets.proofs.Lengths.{ciphertext_exchange}
+use Rattle.scheme.specs.Exchange.{encapsulated, shared_key}
+use Rattle.scheme.specs.Answers.{encrypt_checks, encrypt_draws, encapsulate_answer, encapsulated_left, shared_key_left, encapsulate_work}
+use Rattle.scheme.proofs.Answers.{own_listed, own_bytes, encrypt_passed}
+use Rattle.scheme_checks.proofs.Laws.{two_refused, two_drawn}
+use Rattle.exchange.proofs.encapsulate.Goals as goal
+
+pub encrypt_checked-checked-requires : goal.encrypt_checked-checked-requires
+encrypt_checked-checked-requires c = c.parameters_of-p.ensures
+
+-- the checks passed
+passed : (c : goal.In-Done) → let args = c.args in
+    encrypt_checks is_exchange args.set (length args.public.now) (length args.message.now) (length args.shared.now)
+    (length args.ciphertext.now) (length args.work.now) ≡ accepted
+unfolding is_exchange
+passed c = sym c.encrypt_checked-checked.ensures ∙ ap outcome c.in-Done.is
+
+pub returns-in_default : goal.returns-in_default
+unfolding is_exchange encapsulate_answer encapsulated_left shared_key_left encapsulate_work
+returns-in_default c =
+    let args = c.args in
+    let p = set_of args.set in let whole = two_refused (encrypt_draws p args.public.now) args.work.now
+    (encapsulated p args.public.now args.message.now) args.ciphertext.now
+    (shared_key p args.public.now args.message.now) args.shared.now
+    c.encrypt_checked-checked.ensures (ap outcome c.in_default.is) in record { answer = whole.0; given = whole.1; agreed = whole.2; cleared = whole.3 }
+
+pub encapsulated_key-answer-requires : goal.encapsulated_key-answer-requires
+encapsulated_key-answer-requires c =
+    let set = c.args.set in
+    let fit = encrypt_passed is_exchange set _ _ _ _ _ (passed c.before.before.before) in
+    rw c.parameters_of-p.ensures (
+      own_bytes is_exchange set fit.0,
+      own_listed is_exchange set fit.0,
+      fit.1,
+      fit.2,
+      fit.4 ∙ ciphertext_exchange set fit.0.2,
+      fit.3,
+      fit.5,
+    )
+
+pub returns : goal.returns
+unfolding encapsulate_answer encapsulated_left shared_key_left encapsulate_work
+returns c =
+    let args = c.args in
+    let p = set_of args.set in
+    let made = c.encapsulated_key-answer in
+    let left = rw c.parameters_of-p.ensures at made.ensures in let whole = two_drawn (encrypt_draws p args.public.now) args.work.now
+    (encapsulated p args.public.now args.message.now) args.ciphertext.now
+    (shared_key p args.public.now args.message.now) args.shared.now
+    (passed c.before.before.before.before.before.before.before.before.before.before.before.before.before.before) left (c.clear.ensures ∙ ap (λ (n : ℕ). replicate n 0) made.auto.work) in record { answer = whole.0; given = whole.1; agreed = whole.2; cleared = whole.3 }

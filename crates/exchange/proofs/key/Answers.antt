@@ -1,0 +1,57 @@
+-- `exchange::key` meets its contract: the checks come in the order of the definition, and the work slice is cleared.
+-- Assumes nothing.
+use mathlib.Core.Path.{◌≡◌, sym, ap, ◌∙◌}
+use Prim.Native.Nat.{ℕ}
+use lib.ListN.{length, replicate}
+use Rattle.calls.specs.Outcome.{outcome, accepted}
+use Rattle.sets.specs.Table.{set_of}
+use Rattle.sets.proofs.Lengths.{secret_exchange}
+use Rattle.scheme.specs.Exchange.{inner_seed, exchange_public_key, exchange_secret_key}
+use Rattle.sets.specs.Derived.{is_exchange}
+use Rattle.scheme.specs.Answers.{key_checks, key_draws, exchange_key_answer, exchange_public_left, exchange_secret_left, exchange_key_work}
+use Rattle.scheme.proofs.Answers.{own_listed, own_bytes, key_passed}
+use Rattle.scheme_checks.proofs.Laws.{two_refused, two_drawn}
+use Rattle.exchange.proofs.key.Goals as goal
+
+pub key_checked-checked-requires : goal.key_checked-checked-requires
+key_checked-checked-requires c = c.parameters_of-p.ensures
+
+-- the checks passed
+passed : (c : goal.In-Done) → let args = c.args in
+    key_checks is_exchange args.set (length args.seed.now) (length args.public.now) (length args.secret.now)
+    (length args.work.now) ≡ accepted
+unfolding is_exchange
+passed c = sym c.key_checked-checked.ensures ∙ ap outcome c.in-Done.is
+
+pub returns-in_default : goal.returns-in_default
+unfolding is_exchange exchange_key_answer exchange_public_left exchange_secret_left exchange_key_work
+returns-in_default c =
+    let args = c.args in
+    let p = set_of args.set in let whole = two_refused (key_draws p (inner_seed p args.seed.now)) args.work.now
+    (exchange_public_key p args.seed.now) args.public.now
+    (exchange_secret_key p args.seed.now) args.secret.now
+    c.key_checked-checked.ensures (ap outcome c.in_default.is) in record { answer = whole.0; given = whole.1; kept = whole.2; cleared = whole.3 }
+
+pub keygen-answer-requires : goal.keygen-answer-requires
+keygen-answer-requires c =
+    let set = c.args.set in
+    let fit = key_passed is_exchange set _ _ _ _ (passed c.before.before.before) in
+    rw c.parameters_of-p.ensures (
+      own_bytes is_exchange set fit.0,
+      own_listed is_exchange set fit.0,
+      fit.1,
+      fit.2,
+      fit.3 ∙ secret_exchange set fit.0.2,
+      fit.4,
+    )
+
+pub returns : goal.returns
+unfolding exchange_key_answer exchange_public_left exchange_secret_left exchange_key_work
+returns c =
+    let args = c.args in
+    let p = set_of args.set in
+    let made = c.keygen-answer in
+    let left = rw c.parameters_of-p.ensures at made.ensures in let whole = two_drawn (key_draws p (inner_seed p args.seed.now)) args.work.now
+    (exchange_public_key p args.seed.now) args.public.now
+    (exchange_secret_key p args.seed.now) args.secret.now
+    (passed c.before.before.before.before.before.before.before.before.before.before.before.before.before.before) left (c.clear.ensures ∙ ap (λ (n : ℕ). replicate n 0) made.auto.work) in record { answer = whole.0; given = whole.1; kept = whole.2; cleared = whole.3 }

@@ -1,0 +1,58 @@
+-- `ntt::forward_row_at` meets its contract: the part that is lent is the row, and comes back transformed.
+-- Assumes nothing.
+use mathlib.Core.Path.{◌≡◌, refl, ◌∙◌}
+use Prim.Native.Nat.{◌+◌, ◌*◌}
+use native.Mathlib.Omega.{arith}
+use lib.ListN.{length}
+use Rattle.calls.specs.Region.{region}
+use Rattle.calls.proofs.Region.{region_part, region_length, over_lent}
+use Rattle.ntt.proofs.Rows.{row_inside, forward_ready}
+use Rattle.ntt.proofs.forward_row_at.Goals as goal
+
+pub overflow_mul-start : goal.overflow_mul-start
+overflow_mul-start c = let pre = c.requires in omega (arith, pre.2, pre.0.ready.few_rows)
+
+pub overflow_add-end : goal.overflow_add-end
+overflow_add-end c = let pre = c.requires in omega (arith, pre.2, pre.0.ready.few_rows)
+
+pub overflow_mul-row : goal.overflow_mul-row
+overflow_mul-row c = let pre = c.requires in omega (arith, pre.0.ready.few_rows)
+
+pub overflow_add-row_end : goal.overflow_add-row_end
+overflow_add-row_end c = let pre = c.requires in omega (arith, pre.0.ready.few_rows)
+
+pub offset_bounds-x-start : goal.offset_bounds-x-start
+offset_bounds-x-start c = let pre = c.requires in omega (arith, pre.2, pre.0.ready.few_rows)
+
+pub slice_bounds-forward_row-end : goal.slice_bounds-forward_row-end
+slice_bounds-forward_row-end c = let pre = c.requires in omega (arith, row_inside pre.0 pre.2, pre.0.size)
+
+pub forward_row-requires : goal.forward_row-requires
+forward_row-requires c =
+    let a = c.args.r * 256 in
+    let b = c.args.rows * 256 in
+    rw (
+      region_part c.args.tables.now a 256 (a + 256) refl,
+      region_part c.args.tables.now b 264 (b + 264) refl,
+      region_part c.args.x.now a 256 (a + 256) refl,
+    )
+    (forward_ready c.requires.0 c.requires.2 c.requires.1)
+
+pub returns : goal.returns
+returns c =
+    let a = c.args.r * 256 in
+    let b = c.args.rows * 256 in
+    let made = c.forward_row in
+    let old : length (region c.args.x.now a 256) ≡ 256 =
+    region_length c.args.x.now a 256 (omega (arith, row_inside c.requires.0 c.requires.2, c.requires.0.size)) in
+    let size : length made.new.x ≡ 256 = rw (region_part c.args.x.now a 256 (a + 256) refl) at made.auto.x ∙ old in
+    record {
+      row = made.new.x;
+      size = size;
+      placed = over_lent c.args.x.now a made.new.x (a + 256) (omega arith);
+      holds = rw (
+        region_part c.args.tables.now a 256 (a + 256) refl,
+        region_part c.args.tables.now b 264 (b + 264) refl,
+        region_part c.args.x.now a 256 (a + 256) refl,
+      ) at made.ensures;
+    }

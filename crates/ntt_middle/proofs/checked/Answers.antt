@@ -1,0 +1,37 @@
+-- The numbers are checked as the definition checks them, and only where all are residues is the product written.
+-- Assumes nothing.
+use mathlib.Core.Path.{◌≡◌, sym, ap, ◌∙◌}
+use native.Mathlib.Omega.{arith}
+use Rattle.calls.specs.Outcome.{outcome, accepted}
+use Rattle.calls.proofs.Outcome.{refused_call, accepted_call}
+use Rattle.sets.proofs.Rules.{listed_rules}
+use Rattle.middle.proofs.Chained.{accepted_two}
+use Rattle.ntt_middle.specs.Calls.{numbers_checked_of}
+use Rattle.ntt_middle.proofs.checked.Goals as goal
+
+-- the answer of the check is that of the definition
+decided : (c : goal.After-two_checked-numbers) → let args = c.args in
+    numbers_checked_of args.p.q args.a.now args.b.now ≡ outcome c.two_checked-numbers.result
+unfolding numbers_checked_of
+decided c = sym c.two_checked-numbers.ensures
+
+pub two_checked-numbers-requires : goal.two_checked-numbers-requires
+two_checked-numbers-requires c =
+    let pre = c.requires in
+    omega (arith, pre.1.fit, pre.1.results, pre.1.room, (listed_rules c.args.p pre.0).most_d3)
+
+pub fill-requires : goal.fill-requires
+fill-requires c =
+    let pre = c.requires in
+    let numbers = accepted_two _ c.args.a.now c.args.b.now accepted
+    (sym c.two_checked-numbers.ensures ∙ ap outcome c.in-Done.is) in
+    (pre.0, pre.1, record { each = numbers.0 }, record { each = numbers.1 })
+
+pub returns-in-Refused : goal.returns-in-Refused
+returns-in-Refused c =
+    let whole = refused_call _ _ (decided c.before.before.before ∙ ap outcome c.in-Refused.is) in record { answer = whole.0; left = whole.1 }
+
+pub returns-in-Done : goal.returns-in-Done
+returns-in-Done c =
+    let whole = accepted_call _ _ (decided c.before.before.before.before.before.before.before.before.before
+    ∙ ap outcome c.in-Done.is) c.fill.ensures in record { answer = whole.0; left = whole.1 }

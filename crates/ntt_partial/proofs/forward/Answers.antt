@@ -1,0 +1,69 @@
+-- `ntt_partial::forward` meets its contract: the checks decide, and only an accepted call writes.
+-- Assumes nothing.
+use mathlib.Core.Path.{◌≡◌, sym, ap, ◌∙◌}
+use Prim.Native.Nat.{◌*◌}
+use lib.ListN.{length}
+use Rattle.calls.specs.Outcome.{outcome, accepted}
+use Rattle.calls.proofs.Outcome.{refused_call, accepted_call}
+use Rattle.sets.specs.declared.Parameters.{Parameters}
+use Rattle.sets.specs.Table.{set_of}
+use Rattle.sets.proofs.Rules.{rules, listed_set}
+use Rattle.ntt_partial_checks.specs.Checks.{size_number_of, partial_answer_of}
+use Rattle.ntt_partial.specs.Calls.{partial_sent, partial_left}
+use Rattle.ntt_partial.proofs.Accepted.{Accepted, call_accepted, call_wide, wide_sent}
+use borrow.Author.Rules.{rules}
+use Rattle.ntt_partial.proofs.forward.Goals as goal
+
+pub checked-answer-requires : goal.checked-answer-requires
+checked-answer-requires c = c.parameters_of-p.ensures
+
+-- the checks accept
+checks : (c : goal.In-Done)
+    → let args = c.args in
+    partial_answer_of args.set args.rows args.row args.m args.input.now (length args.out.now) ≡ accepted
+checks c = sym c.checked-answer.ensures ∙ ap outcome c.in-Done.is
+
+-- so the call is one that they accept
+call : (c : goal.In-Done)
+    → let args = c.args in
+    Accepted args.set args.rows args.row args.m args.input.now (length args.out.now)
+call c = call_accepted _ _ _ _ _ _ (checks c)
+
+-- the number of the transform
+number : (c : goal.After-size_number-i)
+    → let args = c.args in
+    c.size_number-i.result ≡ size_number_of (set_of args.set) (args.rows * args.row)
+number c =
+    let args = c.args in
+    c.size_number-i.ensures ∙ ap (λ (p : Parameters). size_number_of p (args.rows * args.row)) c.parameters_of-p.ensures
+
+pub returns-in_default : goal.returns-in_default
+unfolding partial_left
+returns-in_default c =
+    let told = ap outcome c.in_default.is in let whole = rw told (refused_call _ _ (sym c.checked-answer.ensures ∙ told)) in record { answer = whole.0; left = whole.1 }
+
+pub size_number-i-requires : goal.size_number-i-requires
+size_number-i-requires c =
+    rw c.parameters_of-p.ensures (rules c.args.set (call c).low)
+
+pub forward_wide-requires : goal.forward_wide-requires
+forward_wide-requires c =
+    let made = call c.before.before.before in
+    rw (number c.before.before, c.parameters_of-p.ensures)
+    (listed_set _ made.low, call_wide made c.if-row-eq256.taken, made.output ∙ sym made.split.places)
+
+pub returns-then-row-eq256 : goal.returns-then-row-eq256
+unfolding partial_left
+returns-then-row-eq256 c =
+    let made = call c.before.before.before.before.before.before in
+    let sent = rw (number c.before.before.before.before.before, c.parameters_of-p.ensures) at c.forward_wide.ensures in let whole = accepted_call _ _ (checks c.before.before.before.before.before.before) (sent ∙ wide_sent made c.if-row-eq256.taken) in record { answer = whole.0; left = whole.1 }
+
+pub forward_plain-requires : goal.forward_plain-requires
+forward_plain-requires c =
+    let made = call c.before.before.before in
+    rw (number c.before.before, c.parameters_of-p.ensures) (listed_set _ made.low, made.split, made.output)
+
+pub returns : goal.returns
+unfolding partial_left partial_sent
+returns c =
+    let whole = accepted_call _ _ (checks c.before.before.before.before.before.before) (rw (number c.before.before.before.before.before, c.parameters_of-p.ensures) at c.forward_plain.ensures) in record { answer = whole.0; left = whole.1 }

@@ -1,0 +1,27 @@
+-- `ntt_partial_steps::forward_with_tables` meets its contract: the rows that were copied are sent.
+-- Assumes nothing.
+use mathlib.Core.Path.{◌≡◌, ap, ◌∙◌}
+use Prim.Native.Nat.{◌*◌, ◌-◌}
+use native.Mathlib.Omega.{arith}
+use lib.ListN.{take}
+use Rattle.calls.specs.Region.{over}
+use Rattle.ntt_products.specs.Stored.{sent}
+use Rattle.ntt_partial_steps.proofs.Rows.{wide_copied, wide_placed}
+use Rattle.ntt_partial_steps.proofs.forward_with_tables.Goals as goal
+
+-- the rows that were copied
+copied : (c : goal.After-copy_in)
+    → c.copy_in.new.work ≡ over c.args.out.now 0 (take (c.args.m * 256) c.args.input.now)
+copied c =
+    let end : c.args.m * 256 - 0 ≡ c.args.m * 256 = omega arith in
+    rw end at c.copy_in.ensures
+
+pub send_first-requires : goal.send_first-requires
+send_first-requires c =
+    let placed = wide_placed c.requires.1 c.args.out.now c.requires.2 in
+    (c.requires.0, c.load_tables.ensures, rw (copied c.before.before.before.before.before.before.before) placed)
+
+pub returns : goal.returns
+returns c =
+    c.send_first.ensures
+    ∙ ap (sent c.args.p c.args.i) (rw (copied c.before.before.before.before.before.before.before.before.before.before) (wide_copied c.requires.1 c.args.out.now c.requires.2))

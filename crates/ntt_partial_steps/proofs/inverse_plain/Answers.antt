@@ -1,0 +1,16 @@
+-- `ntt_partial_steps::inverse_plain` meets its contract: the array has room for the powers of every root.
+-- Assumes nothing.
+use mathlib.Core.Path.{◌∙◌}
+use native.Mathlib.Omega.{arith}
+use lib.ListN.{length}
+use Rattle.calls.proofs.Parts.{array_front}
+use Rattle.ntt_partial_steps.proofs.Rows.{size_few}
+use Rattle.ntt_partial_steps.proofs.inverse_plain.Goals as goal
+
+pub slice_bounds-powers-end : goal.slice_bounds-powers-end
+slice_bounds-powers-end c = let pre = c.requires in omega (arith, pre.1.places, size_few pre.0 pre.1)
+
+pub inverse_with_powers-requires : goal.inverse_with_powers-requires
+inverse_with_powers-requires c =
+    let pre = c.requires in
+    (pre.0, pre.1, pre.2, array_front 3328 (length c.args.input.now) (omega (arith, pre.1.places, size_few pre.0 pre.1)) ∙ pre.1.places)

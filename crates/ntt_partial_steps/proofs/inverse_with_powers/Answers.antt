@@ -1,0 +1,52 @@
+-- `ntt_partial_steps::inverse_with_powers` meets its contract: the powers that are loaded are those of the inverse of the set's root.
+-- Assumes nothing.
+use mathlib.Core.Path.{◌≡◌, sym, ap, ◌∙◌}
+use Prim.Native.Nat.{◌*◌, ◌^◌}
+use lib.ListN.{length}
+use Rattle.maths.specs.Root.{power_table}
+use Rattle.maths.proofs.PowerTable.{power_table_length}
+use Rattle.maths.specs.Congruence.{Mod}
+use Rattle.sets.proofs.Rules.{listed_rules}
+use Rattle.ntt_products.specs.Stored.{root_inverse_of, inverse_powers}
+use Rattle.ntt_products.proofs.Laws.{size_rows, inverse_below, rows_root_inverse}
+use Rattle.ntt_partial_steps.proofs.Rows.{rows_fit, plain_whole}
+use Rattle.ntt_partial_steps.proofs.inverse_with_powers.Goals as goal
+
+pub size_inverse_of-e-requires : goal.size_inverse_of-e-requires
+size_inverse_of-e-requires c =
+    listed_rules c.args.p c.requires.0
+
+-- the powers that are loaded
+table : (c : goal.After-load_inverse_powers)
+    → c.load_inverse_powers.new.out ≡ power_table c.args.p.q (root_inverse_of c.args.p c.args.i)
+    (c.args.rows * c.args.row)
+unfolding inverse_powers
+table c =
+    c.load_inverse_powers.ensures ∙ rw c.requires.1.size
+
+-- they are as many as the places
+long : (c : goal.After-load_inverse_powers)
+    → length c.load_inverse_powers.new.out ≡ c.args.rows * c.args.row
+long c = ap length (table c) ∙ power_table_length _ _ _
+
+pub inverse-requires : goal.inverse-requires
+inverse-requires c =
+    let split = c.requires.1 in
+    let fits = rows_fit c.requires.0 split in
+    rw c.size_inverse_of-e.ensures (
+      plain_whole c.requires.0 split _ (table c.before.before.before),
+      split.places,
+      long c.before.before.before ∙ sym split.places,
+      inverse_below c.args.p (listed_rules c.args.p c.requires.0) c.args.i,
+      rw c.requires.2 fits,
+    )
+
+pub returns : goal.returns
+returns c =
+    let v = root_inverse_of c.args.p c.args.i in
+    let whole : Mod c.args.p.q (v ^ length c.load_inverse_powers.new.out) 1 =
+    rw (long c.before.before.before.before.before.before, c.requires.1.size, ← size_rows c.args.p c.requires.0 c.args.i)
+    (rows_root_inverse c.args.p c.requires.0 c.args.i).power in
+    (rw c.size_inverse_of-e.ensures at
+    (c.inverse.ensures v c.args.m))
+    (rw (long c.before.before.before.before.before.before) (table c.before.before.before.before.before.before)) whole c.requires.2 c.requires.1.within

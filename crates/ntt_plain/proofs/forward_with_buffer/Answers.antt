@@ -1,0 +1,39 @@
+-- `ntt_plain::forward_with_buffer` meets its contract: columns, twist, rows, and the settling.
+-- Assumes nothing.
+use mathlib.Core.Path.{◌≡◌, sym, ◌∙◌}
+use native.Mathlib.Nat.{le_of_eq}
+use lib.ListN.{length}
+use Rattle.ntt_plain.proofs.Steps.{columns_length, twisted_length, plain_of, RootPowers}
+use Rattle.ntt_plain.proofs.Lazily.{sent_settled}
+use Rattle.ntt_plain.proofs.forward_with_buffer.Goals as goal
+
+-- all places are filled
+columns_size : (c : goal.After-fill_columns) → length c.fill_columns.new.to ≡ length c.args.powers.now
+columns_size c = c.fill_columns.ensures.kept ∙ columns_length _ _ _ _ _ _ ∙ c.requires.5
+
+twist_size : (c : goal.After-twist) → length c.twist.new.x ≡ length c.args.powers.now
+twist_size c = c.twist.ensures.kept ∙ twisted_length _ _ _ _ ∙ columns_size c.before.before.before.before
+
+pub twist-requires : goal.twist-requires
+twist-requires c =
+    (plain_of c.requires.0 (le_of_eq (columns_size c.before.before.before)) c.fill_columns.ensures.below, c.negated_inverse-k.ensures)
+
+pub fill_rows-requires : goal.fill_rows-requires
+fill_rows-requires c =
+    let pre = c.requires in
+    let size = twist_size c.before.before.before in (
+      plain_of pre.0 (le_of_eq size) c.twist.ensures.below,
+      size ∙ pre.3,
+      sym size,
+      pre.4 ∙ sym size,
+      c.negated_inverse-k.ensures,
+      c.scaled_scale-s.ensures,
+    )
+
+pub returns : goal.returns
+returns c w table whole =
+    let root : RootPowers c.args.q c.args.row c.args.count w c.args.powers.now =
+    record { some_columns = c.requires.0.some_columns; size = c.requires.3; table = table; whole = whole } in
+    sent_settled c.requires.0.modulus root c.args.m (length c.args.between.now) c.args.x.now c.requires.2 c.requires.1
+    (c.requires.5 ∙ c.requires.3) c.settling_factor-by.ensures.1 c.fill_columns.ensures c.twist.ensures
+    c.fill_rows.ensures c.settle.ensures

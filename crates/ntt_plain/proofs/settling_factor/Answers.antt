@@ -1,0 +1,24 @@
+-- `ntt_plain::settling_factor` meets its contract: each of the four products is one with 2^32.
+-- Assumes nothing.
+use Rattle.ntt_plain.proofs.Lazily.{settling, scale_below}
+use Rattle.ntt_plain.proofs.settling_factor.Goals as goal
+
+pub product-once-requires : goal.product-once-requires
+product-once-requires c = (c.requires.0, scale_below c.requires.0.modulus c.requires.1)
+
+pub product-twice-requires : goal.product-twice-requires
+product-twice-requires c = let pre = c.requires in (pre.0, scale_below pre.0.modulus pre.1)
+
+pub product-thrice-requires : goal.product-thrice-requires
+product-thrice-requires c = let pre = c.requires in (pre.0, scale_below pre.0.modulus pre.1)
+
+pub settle_number-requires : goal.settle_number-requires
+settle_number-requires c = let pre = c.requires in (pre.0, scale_below pre.0.modulus pre.1)
+
+pub returns : goal.returns
+returns c =
+    let once = c.product-once in
+    let twice = c.product-twice in
+    let thrice = c.product-thrice in
+    settling c.args.e once.result twice.result thrice.result c.requires.0.modulus c.requires.1 once.ensures.0 twice.ensures.0
+    thrice.ensures.0 c.settle_number.ensures

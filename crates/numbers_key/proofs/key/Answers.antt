@@ -1,0 +1,96 @@
+-- `numbers_key::key` meets its contract: the checks come in the order of the definition, and only an accepted call writes.
+-- Assumes nothing.
+use mathlib.Core.Path.{◌≡◌, sym, ap, ◌∙◌}
+use mathlib.Core.Bool.{true}
+use native.Mathlib.Nat.{mul-le-mul}
+use lib.ListN.{length}
+use native.Mathlib.Omega.{arith}
+use borrow.Author.Tests.{eqb-true, not-true, not-false}
+use Rattle.calls.specs.Outcome.{outcome, accepted}
+use Rattle.calls.specs.Checks.{all_of}
+use Rattle.calls.proofs.Outcome.{refused_call, accepted_call}
+use Rattle.calls.proofs.Checks.{all_of_each}
+use Rattle.sets.specs.Rules.{Rules}
+use Rattle.sets.proofs.Counts.{errors_most}
+use Rattle.sets.proofs.Rules.{rules}
+use Rattle.middle.proofs.Chained.{accepted_two}
+use Rattle.middle.proofs.OpenCall.{opening_set, opening_lengths, operand}
+use Rattle.numbers.specs.Calls.{key_shape, key_answer, key_left}
+use Rattle.numbers.proofs.KeyLaws.{accepted_errors, key_numbers_lem}
+use borrow.Author.Rules.{rules}
+use Rattle.numbers_key.proofs.key.Goals as goal
+
+pub returns-then-set-gt-LAST : goal.returns-then-set-gt-LAST
+unfolding key_answer key_left
+returns-then-set-gt-LAST c =
+    let whole = refused_call _ _ (opening_set _ _ 2 _ c.if-set-gt-LAST.taken) in record { answer = whole.0; left = whole.1 }
+
+pub lengths_fit-requires : goal.lengths_fit-requires
+lengths_fit-requires c = rw c.parameters_of-p.ensures (rules c.args.set (omega (arith, c.if-set-gt-LAST.left)))
+
+pub returns-then-not-lengths_fit : goal.returns-then-not-lengths_fit
+unfolding key_answer key_left
+returns-then-not-lengths_fit c =
+    let whole = refused_call _ _ (opening_lengths _ _ 2 _ c.if-set-gt-LAST.left
+    (rw c.parameters_of-p.ensures at (sym c.lengths_fit.ensures ∙ not-true _ c.if-not-lengths_fit.taken))) in record { answer = whole.0; left = whole.1 }
+
+-- where the lengths fit
+lengths : (c : goal.Else-not-lengths_fit)
+    → let args = c.args in
+    all_of (key_shape c.parameters_of-p.result (length args.a.now) (length args.s.now) (length args.e.now) (length args.b.now))
+    ≡ true
+lengths c = sym c.lengths_fit.ensures ∙ not-false _ c.if-not-lengths_fit.left
+
+-- the set's numbers keep the rules
+kept : (c : goal.Else-not-lengths_fit) → Rules c.parameters_of-p.result
+kept c =
+    rw (← c.parameters_of-p.ensures) at (rules c.args.set (omega (arith, c.if-set-gt-LAST.left)))
+
+-- the numbers decide
+decided : (c : goal.After-numbers_checked-checked)
+    → let args = c.args in
+    key_answer args.set args.a.now args.s.now args.e.now (length args.b.now) ≡ outcome c.numbers_checked-checked.result
+decided c =
+    let args = c.args in
+    let known = c.parameters_of-p in
+    key_numbers_lem args.set known.result args.a.now args.s.now args.e.now (length args.b.now) known.ensures
+    c.if-set-gt-LAST.left (lengths c.before)
+    ∙ sym c.numbers_checked-checked.ensures
+
+pub numbers_checked-checked-requires : goal.numbers_checked-checked-requires
+numbers_checked-checked-requires c =
+    let each = all_of_each _ (lengths c) in
+    let p = c.parameters_of-p.result in
+    let keeps = kept c in
+    let public = mul-le-mul {n₁ = p.t} {m₁ = p.n} {n₂ = 10} {m₂ = 2048} keeps.most_t keeps.most_n in
+    (omega (arith, eqb-true, keeps.most_n, keeps.most_k, keeps.most_d, public, errors_most p keeps), omega (arith, keeps.most_eta))
+
+pub fill-requires : goal.fill-requires
+fill-requires c =
+    let args = c.args in
+    let p = c.parameters_of-p.result in
+    let each = all_of_each _ (lengths c.before.before.before.before) in
+    let keeps = kept c.before.before.before.before in
+    let passed = sym c.numbers_checked-checked.ensures ∙ ap outcome c.in-Done.is in
+    let numbers = accepted_two p.q args.a.now args.s.now _ passed in
+    let errors = accepted_errors p.eta _ args.e.now accepted numbers.2 in (
+      keeps,
+      record {
+        public = record { size = eqb-true _ _ each.0; each = numbers.0 };
+        secret = operand keeps.small (omega (arith, eqb-true, keeps.most_n, keeps.most_k, keeps.most_d)) numbers.1;
+        errors_length = eqb-true _ _ each.1.1.0;
+        errors_small = errors.0;
+      },
+      eqb-true _ _ each.1.1.1.0 ∙ sym (eqb-true _ _ each.1.1.0),
+    )
+
+pub returns-in-Refused : goal.returns-in-Refused
+unfolding key_left
+returns-in-Refused c =
+    let whole = refused_call _ _ (decided c.before.before.before ∙ ap outcome c.in-Refused.is) in record { answer = whole.0; left = whole.1 }
+
+pub returns-in-Done : goal.returns-in-Done
+unfolding key_left
+returns-in-Done c =
+    let whole = accepted_call _ _ (decided c.before.before.before.before.before.before ∙ ap outcome c.in-Done.is)
+    (c.fill.ensures ∙ rw c.parameters_of-p.ensures) in record { answer = whole.0; left = whole.1 }

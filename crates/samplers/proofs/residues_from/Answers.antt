@@ -1,0 +1,13 @@
+-- `samplers::residues_from` meets its contract: a block is read into the first bytes of a local array.
+-- Assumes nothing.
+use Rattle.calls.proofs.Parts.{array_front}
+use borrow.Author.Rules.{rules}
+use Rattle.samplers.proofs.residues_from.Goals as goal
+
+pub residues_with_buffers-requires : goal.residues_with_buffers-requires
+residues_with_buffers-requires c =
+    let whole = rw (array_front 10158 c.args.size c.requires.0.3) (search rules) in record { rules = whole.0; out_nonzero = whole.1 }
+
+pub returns : goal.returns
+returns c =
+    let whole = rw (array_front 10158 c.args.size c.requires.0.3) at c.residues_with_buffers.ensures in record { answer = whole.0; result = whole.1 }

@@ -1,0 +1,16 @@
+-- `samplers::small::multipliers_with_buffers` meets its contract: the bytes are an output of the seed.
+-- Assumes nothing.
+use native.Mathlib.Omega.{arith}
+use Rattle.samplers.specs.Seeded.{multipliers_drawn}
+use borrow.Author.Rules.{rules}
+use Rattle.samplers.proofs.small.multipliers_with_buffers.Goals as goal
+
+pub source_bytes-requires : goal.source_bytes-requires
+source_bytes-requires c =
+    let pre = c.requires in
+    (pre.rules.2, omega (arith, pre.bytes_len.0, pre.rules.1.most_multiplier_bytes))
+
+pub returns : goal.returns
+unfolding multipliers_drawn
+returns c =
+    rw (c.source_bytes.ensures.1, c.requires.bytes_len.0) at c.fill_multipliers.ensures

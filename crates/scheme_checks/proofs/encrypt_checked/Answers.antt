@@ -1,0 +1,45 @@
+-- `scheme_checks::encrypt_checked` meets its contract: the set is looked at before the lengths, which are the set's.
+-- Assumes nothing.
+use mathlib.Core.Path.{sym, ap, ◌∙◌}
+use native.Mathlib.Omega.{arith}
+use borrow.Author.Rules.{rules}
+use Rattle.calls.specs.Outcome.{outcome}
+use Rattle.sets.specs.Rules.{Rules}
+use Rattle.sets.specs.Derived.{is_of}
+use Rattle.sets.proofs.Rules.{rules_of}
+use Rattle.scheme.specs.Answers.{checks, encrypt_checks}
+use Rattle.scheme.proofs.Answers.{Own, set_range, set_refuses, lengths_decide}
+use Rattle.scheme_checks.proofs.encrypt_checked.Goals as goal
+
+-- the set is one of the scheme's
+own : (c : goal.In-Done) → Own (is_of c.args.number) c.args.set
+own c = set_range _ _ (sym c.set_checked-checked.ensures ∙ ap outcome c.in-Done.is)
+
+-- so that its record keeps the rules
+kept : (c : goal.In-Done) → Rules c.args.p
+kept c = rules_of c.args.set (omega (arith, (own c).1)) _ c.requires
+
+pub returns-in_default : goal.returns-in_default
+unfolding checks encrypt_checks
+returns-in_default c = let told = ap outcome c.in_default.is in told ∙ sym (set_refuses _ _ _ (sym c.set_checked-checked.ensures ∙ told))
+
+pub public_key_bytes-requires : goal.public_key_bytes-requires
+public_key_bytes-requires c = kept c
+
+pub ciphertext_bytes-requires : goal.ciphertext_bytes-requires
+ciphertext_bytes-requires c = kept c.before
+
+pub work_length-requires : goal.work_length-requires
+work_length-requires c = kept c.before.before
+
+pub returns : goal.returns
+unfolding encrypt_checks
+returns c =
+    c.lengths_checked.ensures
+    ∙ rw (
+      c.work_length.ensures,
+      c.ciphertext_bytes.ensures,
+      c.public_key_bytes.ensures,
+      c.requires,
+    )
+    (sym (lengths_decide _ _ _ _ _ (own c.before.before.before.before)))

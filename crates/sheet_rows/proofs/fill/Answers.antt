@@ -1,0 +1,74 @@
+-- Set 0 has rows of its own; an encryption set takes the seeds and the message from their places.
+-- Assumes nothing.
+use mathlib.Core.Path.{◌≡◌, refl, ap, ◌∙◌}
+use Prim.Native.Nat.{◌≤◌}
+use native.Mathlib.Omega.{arith}
+use lib.ListN.{length}
+use Rattle.scheme.specs.Answers.{work_length_of}
+use Rattle.calls.proofs.Parts.{part_length, front_length}
+use Rattle.sets.specs.declared.Parameters.{Parameters}
+use Rattle.sets.proofs.Rules.{rules_of, byte_rules_of}
+use Rattle.sheet_rows.proofs.Sets.{sheet_set, work_most}
+use Rattle.sheet_rows.proofs.RowLaws.{input_long, bench_lengths, bench_filled, seeded_filled}
+use Rattle.sheet_rows.proofs.fill.Goals as goal
+
+-- the input of an encryption set
+long : (c : goal.After-work_length-size) → length c.args.input.now ≡ 97
+long c = c.requires.1 ∙ input_long c.args.set c.if-set-lt1.false
+
+-- the work slice has room
+room : (c : goal.After-work_length-size) → c.work_length-size.result ≤ length c.args.work.now
+room c =
+    omega (arith, work_most c.args.set c.requires.0, c.work_length-size.ensures, ap work_length_of c.requires.6, c.requires.5)
+
+pub bench_rows-requires : goal.bench_rows-requires
+bench_rows-requires c =
+    let pre = c.requires in
+    let sizes = bench_lengths c.args.set c.if-set-lt1.true in
+    let two = ap (λ (p : Parameters). p.d) pre.6 ∙ sizes.1 in
+    (pre.1 ∙ sizes.0, pre.2 ∙ two, pre.3 ∙ two, pre.4 ∙ two)
+
+pub returns-then-set-lt1 : goal.returns-then-set-lt1
+returns-then-set-lt1 c =
+    let args = c.args in
+    let made = c.bench_rows.ensures in let whole = bench_filled args.set args.input.now _ args.noise.now _ args.sent.now _ args.read.now _ c.if-set-lt1.true c.requires.1
+    made.0 made.1.0 made.1.1.0 made.1.1.1 in record { answer = whole.0; rows = whole.1 }
+
+pub work_length-size-requires : goal.work_length-size-requires
+work_length-size-requires c =
+    rules_of c.args.set (sheet_set c.args.set c.requires.0) _ c.requires.6
+
+pub slice_bounds-seeded_rows-end : goal.slice_bounds-seeded_rows-end
+slice_bounds-seeded_rows-end c = omega (arith, long c)
+
+pub slice_bounds-seeded_rows-end-2 : goal.slice_bounds-seeded_rows-end-2
+slice_bounds-seeded_rows-end-2 c = omega (arith, long c.before)
+
+pub slice_bounds-seeded_rows-end-3 : goal.slice_bounds-seeded_rows-end-3
+slice_bounds-seeded_rows-end-3 c = omega (arith, long c.before.before)
+
+pub slice_bounds-seeded_rows-end-4 : goal.slice_bounds-seeded_rows-end-4
+slice_bounds-seeded_rows-end-4 c = omega (arith, room c.before.before.before.before.before.before)
+
+pub seeded_rows-requires : goal.seeded_rows-requires
+seeded_rows-requires c =
+    let pre = c.requires in
+    let input = c.args.input.now in
+    let size = long c.before.before.before.before.before.before.before in
+    let set = c.args.set in
+    let low = sheet_set set pre.0 in (
+      byte_rules_of set low _ pre.6 c.if-set-lt1.left,
+      record { set = set; is_set = low; listed = pre.6 },
+      part_length input 1 33 32 refl (rw size (omega arith)),
+      part_length input 65 97 32 refl (rw size (omega arith)),
+      part_length input 33 65 32 refl (rw size (omega arith)),
+      pre.2,
+      pre.3,
+      pre.4,
+      front_length c.args.work.now c.work_length-size.result (room c.before.before.before.before.before.before.before) ∙ c.work_length-size.ensures,
+    )
+
+pub returns : goal.returns
+returns c =
+    let whole = seeded_filled c.args.set c.args.p c.args.input.now _ _ _ _ c.if-set-lt1.left c.requires.6
+    c.seeded_rows.ensures.0 c.seeded_rows.ensures.1 in record { answer = whole.0; rows = whole.1 }

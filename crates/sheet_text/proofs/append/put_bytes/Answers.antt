@@ -1,0 +1,16 @@
+-- `sheet_text::append::put_bytes` meets its contract: after i turns the first i bytes stand in place.
+-- Assumes nothing.
+use mathlib.Core.Path.{refl}
+use Prim.Native.Nat.{◌-◌}
+use Rattle.calls.proofs.Filled.{filled_none, filled_more}
+use Rattle.sheet_text.proofs.WrittenLaws.{written_filled}
+use Rattle.sheet_text.proofs.append.put_bytes.Goals as goal
+
+pub loop-i-init : goal.loop-i-init
+loop-i-init c = filled_none refl c.requires
+
+pub loop-i-preserved : goal.loop-i-preserved
+loop-i-preserved c = filled_more 0 c.loop-i.invariant c.loop-i-test.true refl refl
+
+pub returns : goal.returns
+returns c = written_filled c.loop-i.invariant c.loop-i-test.false

@@ -1,0 +1,84 @@
+-- `sheet_text::rows::put_rows` meets its contract: each turn appends one row.
+-- Assumes nothing.
+use mathlib.Core.Path.{sym}
+use Prim.Native.Nat.{◌+◌, ◌-◌}
+use native.Mathlib.Omega.{arith}
+use lib.IntN.{pos}
+use lib.ListN.{get_or}
+use lib.Seq.{take_all}
+use Rattle.sheet_order.specs.Order as order
+use Rattle.maths.proofs.SignedWord.{entry_kept}
+use Rattle.sheet_text.proofs.WrittenLaws.{written_none, written_append, written_as, room_next}
+use Rattle.sheet_text.proofs.TextLaws.{row_of, rows_none, rows_more, rows_front}
+use Rattle.sheet_text.proofs.rows.put_rows.Goals as goal
+
+pub loop-i-init : goal.loop-i-init
+loop-i-init c =
+    (
+      written_as (sym (rows_none c.args.noise.now c.args.sent.now c.args.read.now c.args.places.now))
+          (written_none (omega (arith, c.requires.2))),
+      omega arith,
+    )
+
+pub offset_bounds-noise-place : goal.offset_bounds-noise-place
+offset_bounds-noise-place c =
+    omega (arith, c.requires.1.below c.loop-i.i c.loop-i-test.true)
+
+pub bounds-noise-place : goal.bounds-noise-place
+bounds-noise-place c =
+    c.requires.1.below c.loop-i.i c.loop-i-test.true
+
+pub offset_bounds-sent-place : goal.offset_bounds-sent-place
+offset_bounds-sent-place c =
+    omega (arith, c.requires.1.below c.loop-i.i c.loop-i-test.true, c.requires.0.sent_length)
+
+pub bounds-sent-place : goal.bounds-sent-place
+bounds-sent-place c =
+    omega (arith, c.requires.1.below c.loop-i.i c.loop-i-test.true, c.requires.0.sent_length)
+
+pub offset_bounds-read-place : goal.offset_bounds-read-place
+offset_bounds-read-place c =
+    omega (arith, c.requires.1.below c.loop-i.i c.loop-i-test.true, c.requires.0.read_length)
+
+pub bounds-read-place : goal.bounds-read-place
+bounds-read-place c =
+    omega (
+      arith,
+      c.requires.1.below c.loop-i.i c.loop-i-test.true,
+      c.requires.0.read_length,
+    )
+
+pub put_row-end-requires : goal.put_row-end-requires
+unfolding order.size_at
+put_row-end-requires c =
+    let noise = c.args.noise.now in
+    let sent = c.args.sent.now in
+    let read = c.args.read.now in
+    let places = c.args.places.now in
+    let i = c.loop-i.i in
+    let place = get_or places i 0 in
+    let more = rows_more noise sent read places i c.loop-i-test.true in
+    rw (entry_kept (get_or noise place (pos 0)) c.put_row-arg-1.given) (
+      c.requires.0.sizes.small place,
+      room_next c.loop-i.invariant.0 (row_of noise sent read place)
+          (rw (← more) (omega (arith, rows_front noise sent read places (i + 1), c.requires.2))),
+    )
+
+pub loop-i-preserved : goal.loop-i-preserved
+loop-i-preserved c =
+    let noise = c.args.noise.now in
+    let sent = c.args.sent.now in
+    let read = c.args.read.now in
+    let places = c.args.places.now in
+    let i = c.loop-i.i in
+    let more = rows_more noise sent read places i c.loop-i-test.true in (
+      written_as (sym more)
+          (written_append c.loop-i.invariant.0
+          (rw (entry_kept (get_or noise (get_or places i 0) (pos 0)) c.put_row-arg-1.given) at
+          c.put_row-end.ensures)),
+      omega arith,
+    )
+
+pub returns : goal.returns
+returns c =
+    rw (take_all c.loop-i.i c.args.places.now c.loop-i-test.false) at c.loop-i.invariant.0
