@@ -32,16 +32,16 @@ def clause_names():
                 mod = [] if rel in ("lib", "main") else rel.split(os.sep)
                 if mod and mod[-1] == "mod":
                     mod.pop()
-                for m in re.finditer(r"\bfn (\w+)[^{;]*?\)(?:\s*->\s*[^{\n]+?)?((?:\s*(?:requires|ensures)[^\n]*(?:\n(?!\{|\s*(?:requires|ensures)|\s*\n)[^\n]*)*)*)", text):
-                    cl = m.group(2)
-                    out["::".join([c] + mod + [m.group(1)])] = (re.findall(r"requires (\w+) \{", cl), re.findall(r"ensures (\w+) \{", cl))
+                for m in re.finditer(r"^( *)(?:pub )?(?:unsafe )?(?:extern \"C\" )?fn (\w+)(.*?)\n\1\{", text, re.M | re.S):
+                    cl = m.group(3)
+                    out["::".join([c] + mod + [m.group(2)])] = (re.findall(r"requires (\w+) \{", cl), re.findall(r"ensures (\w+) \{", cl))
     return out
 
 
 class Function:
     def __init__(self, crate, path, data, clauses):
         self.crate, self.path, self.d, self.clauses = crate, path, data, clauses
-        self.own = "::".join([crate] + [p.lstrip("+") for p in path.split(".")])
+        self.me = "::".join([crate] + [p.lstrip("+") for p in path.split(".")])
         self.step, self.callee, self.place, self.parent = {}, {}, {}, {}
         names = self.d["places_by_name"]
         for i, p in enumerate(self.d["places"]):
@@ -56,13 +56,20 @@ class Function:
         self.need = {}
         for (o, n), (po, pn) in zip(self.d["needs"], self.d["asked_at"]):
             self.need[norm(o)] = (n, norm(po), o)
-        self.arm = {}
+        self.arm, self.own = {}, {}
         for a in self.d["arms"]:
             if a:
                 for field, step, rest in a[2]:
                     if rest:
                         self.arm[(norm(step), tuple(rest))] = (a[0], field)
-        self.said = []
+                    else:
+                        self.own[(norm(step), ())] = field
+        self.said, self.points = [], set()
+
+    def point(self, old):
+        new = self.place.get(old, old)
+        self.points.add(new)
+        return new
 
     def goal(self, old):
         k = norm(old)
@@ -96,29 +103,33 @@ class Function:
             if got:
                 return [got[0], got[1]] + rest[n:]
         if head == "requires":
-            names = self.clauses.get(self.own, ([], []))[0]
+            names = self.clauses.get(self.me, ([], []))[0]
             if len(names) > 1 and rest and rest[0].isdigit() and int(rest[0]) < len(names):
                 rest[0] = names[int(rest[0])]
             return [head] + rest
         new = self.step.get(k)
         if new is None:
             return [head] + rest
+        if rest and rest[0] in ("rest",) and (k, ()) in self.own:
+            return [new, self.own[(k, ())]] + rest
         callee = self.callee.get(k)
         if callee and rest:
-            if rest[0] in ("new", "auto", "kept"):
+            if rest[0] in ("new", "auto", "kept", "last"):
                 ones = 0
                 while 1 + ones < len(rest) and rest[1 + ones] == "1":
                     ones += 1
                 if 1 + ones < len(rest) and rest[1 + ones] == "0":
                     params = self.d["params"].get(callee, [])
                     if ones < len(params):
-                        rest = ["auto" if rest[0] == "kept" else rest[0], params[ones]] + rest[2 + ones:]
+                        rest = [{"kept": "auto", "last": "new"}.get(rest[0], rest[0]), params[ones]] + rest[2 + ones:]
             elif rest[0] == "ensures" and len(rest) > 1 and rest[1].isdigit():
                 names = self.clauses.get(callee, ([], []))[1]
                 if len(names) > 1 and int(rest[1]) < len(names):
                     rest[1] = names[int(rest[1])]
         if rest and rest[0] == "inv":
             rest[0] = "invariant"
+        if rest and (new.startswith("if-") or new.endswith("-test")):
+            rest[0] = {"taken": "true", "left": "false"}.get(rest[0], rest[0])
         return [new] + rest
 
 
@@ -151,7 +162,7 @@ def blocks(text):
             if name is not None:
                 cur.append(l)
             continue
-        if not l[0].isspace():
+        if not l[0].isspace() and not l.startswith(")"):
             words = re.sub(r"^(?:(?:abbrev|unfoldable|pub)\s+)+", "", l)
             first = re.split(r"[\s(]", words)[0]
             if first == "unfolding" or first == name:
@@ -205,7 +216,8 @@ def inline_aliases(text, aliases):
 
 
 def strip_before(text):
-    text = re.sub(r"(?:\.before)+(?![\w-])", "", text)
+    text = re.sub(r"(?<!args)(?:\.before)+(?![\w-])", "", text)
+    text = re.sub(r"(?<![\w-])not[-_](?:true|false) _ (c\.[^\s(),]+)", r"\1", text)
     prev = None
     while prev != text:
         prev = text
@@ -221,8 +233,7 @@ def drop_point_lets(text, var):
         if not m:
             return text
         a = m.group(1)
-        text = text[:m.start()] + text[m.end():]
-        text = re.sub(r"(?<![\w.'₀-₉-])" + re.escape(a) + r"(?![\w'₀-₉-])(?!\s*=[^=])", var, text)
+        text = text[:m.start()] + re.sub(r"(?<![\w.'₀-₉-])" + re.escape(a) + r"(?![\w'₀-₉-])(?!\s*=[^=])", var, text[m.end():])
 
 
 def rename_fields(text, f, var):
@@ -245,18 +256,26 @@ def rename_fields(text, f, var):
             return ".".join([base] + full_new[len(full_old):])
         return ".".join([var] + full_new)
 
-    return PATHRE.sub(one, text)
+    text = PATHRE.sub(one, text)
+    for a in list(env):
+        if a == var:
+            continue
+        m = re.search(r"let " + re.escape(a) + r" = [^\s]+ in(?:\n[ \t]*| )", text)
+        if m and not re.search(r"(?<![\w.'₀-₉-])" + re.escape(a) + r"(?![\w'₀-₉-])", text[m.end():]):
+            text = text[:m.start()] + text[m.end():]
+    return text
 
 
-def helper_calls(text, f, helpers, at, var):
+def helper_calls(text, f, helpers, at, var, here):
     """Arguments of lemmas over a point: the point reached by `.before` from this one."""
     for h, to in helpers.items():
         def put(m):
             n = f.ups(at, to)
-            arg = var if not n else var + ".before" * n
             if n is None:
                 f.said.append(f"{h} at {at}: {to} is not above it")
-                arg = var
+            point = f.place.get(to, to)
+            f.points.add(point)
+            arg = var if at == to or n is None else f"(goal.at.{here} {var}).{point}"
             return f"{h} {arg}"
         text = re.sub(r"(?<![\w.'₀-₉-])" + re.escape(h) + r" " + re.escape(var) + r"(?![\w'₀-₉.-])", put, text)
     return text
@@ -361,9 +380,11 @@ def turn(f, folder):
                 body = re.sub(r"(?<![\w.'₀-₉-])" + re.escape(a) + r"(?![\w'₀-₉-])", var, body)
             body = inline_aliases(body, [a for a in aliases if a not in inner[outside]])
             body = strip_before(body)
-            body = body.replace(m.group(0), f"module _ ({var} : goal.{f.place.get(at, at)}) where")
+            body = body.replace(m.group(0), f"module _ ({var} : {f.point(at)}) where")
             body = drop_point_lets(body, var)
             body = rename_fields(body, f, var)
+            mine = set(re.findall(r"^  (?:abbrev )?(?:pub )?(" + IDENT + r") :", body, re.M))
+            body = helper_calls(body, f, {h: t for h, t in helpers.items() if h not in mine}, at, var, f.place.get(at, at))
             ans.append(body)
             if "tie." in body:
                 f.said.append("module: tie. is left")
@@ -408,7 +429,7 @@ def turn(f, folder):
                 f.said.append(f"{name}: parameters {params}")
             rhs = drop_point_lets(rhs, var)
             rhs = rename_fields(rhs, f, var)
-            rhs = helper_calls(rhs, f, helpers, at, var)
+            rhs = helper_calls(rhs, f, helpers, at, var, new)
             asked = f.d["asked"].get(old)
             if asked and len(asked) > 1:
                 rhs = "\n    " + clause_record(rhs, asked).strip()
@@ -418,12 +439,12 @@ def turn(f, folder):
             continue
         if name in helpers and (m := re.search(r"^((?:abbrev )?(?:pub )?" + re.escape(name) + r") : tie\.(\S+)[^→\n]*→ ", body, re.M)):
             at = helpers[name]
-            body = body.replace(m.group(0), f"{m.group(1)} : goal.{f.place.get(at, m.group(2))} → ", 1)
+            body = body.replace(m.group(0), f"{m.group(1)} : {f.point(at)} → ", 1)
             e = re.search(r"^" + re.escape(name) + r" (\S+)", body, re.M)
             var = e.group(1) if e else "c"
             body = drop_point_lets(body, var)
             body = rename_fields(body, f, var)
-            body = helper_calls(body, f, {h: t for h, t in helpers.items() if h != name}, at, var)
+            body = helper_calls(body, f, {h: t for h, t in helpers.items() if h != name}, at, var, f.place.get(at, at))
             ans.append(body)
             continue
         if name in helpers:
@@ -433,16 +454,51 @@ def turn(f, folder):
             if place is None:
                 f.said.append(f"{name}: no point {m.group(2)}: {list(f.place.values())}")
                 place = m.group(2)
-            body = body[:m.start()] + body[m.start():].replace(m.group(0), f"{name} : ({var} : goal.{place})", 1)
+            body = body[:m.start()] + body[m.start():].replace(m.group(0), f"{name} : ({var} : {f.point(at)})", 1)
             body = drop_point_lets(body, var)
             body = rename_fields(body, f, var)
-            body = helper_calls(body, f, {h: t for h, t in helpers.items() if h != name}, at, var)
+            body = helper_calls(body, f, {h: t for h, t in helpers.items() if h != name}, at, var, f.place.get(at, at))
             ans.append(body)
             continue
         if "tie." in body:
             f.said.append(f"{name}: left as it is, with tie: {body[:80]!r}")
         ans.append(body)
+    spec = re.search(r"tie\.spec(.*)\)\s*\Z", text.rstrip(), re.S)
+    if spec:
+        args, d, cur = [], 0, ""
+        for ch in spec.group(1):
+            d += ch == "("
+            d -= ch == ")"
+            if d < 0:
+                break
+            if ch.isspace() and d == 0:
+                if cur:
+                    args.append(cur)
+                cur = ""
+            else:
+                cur += ch
+        if cur:
+            args.append(cur)
+        args = [a for a in args if not re.match(r"(invariant|decreases)-", a)]
+        needs = f.d["needs"]
+        for i, a in enumerate(args):
+            if a.startswith("(λ") and "search rules" not in a:
+                m = re.match(r"\(λ (\S+?)(?: κs)?\. (.*)\)\Z", a, re.S)
+                if len(args) != len(needs):
+                    f.said.append(f"argument {i} of {len(args)}, {len(needs)} needs: {a}")
+                elif m:
+                    old, new = needs[i]
+                    var, rhs = m.group(1), " " + strip_before(inline_aliases(m.group(2), aliases))
+                    at = norm(f.d["asked_at"][i][0])
+                    rhs = helper_calls(rename_fields(drop_point_lets(rhs, var), f, var), f, helpers, at, var, new)
+                    asked = f.d["asked"].get(old)
+                    if asked and len(asked) > 1:
+                        rhs = " " + clause_record(rhs, asked).strip()
+                    ans.append(f"pub {new} : goal.{new}\n{new} {var} ={rhs}")
     uses = [u for u in uses if "Statement" not in u and ".Tie as tie" not in u]
+    if any(re.search(r"Rattle\..*\{(?:.*, )?rules(?:,.*)?\}", u) for u in uses) and "use borrow.Author.Rules.{rules}" in uses:
+        uses = [re.sub(r"(?<![\w])rules(?=[,}])", "rules as set_rules", u) if u.startswith("use Rattle.") else u for u in uses]
+        ans = [re.sub(r"(?<![\w.'-])(?<!search )(?<!search \()rules(?![\w'-])(?! =)", "set_rules", a) for a in ans]
 
     def needed(us, texts):
         whole = "\n".join(texts)
@@ -478,6 +534,9 @@ def turn(f, folder):
             uses.append(f"use {goalmod}.Invariants.{{{', '.join(names)}}}")
     if ans:
         us = needed(uses, ans)
+        points = sorted(p for p in f.points if any(re.search(r"(?<![\w.'₀-₉-])" + re.escape(p) + r"(?![\w'₀-₉-])", a) for a in ans))
+        if points:
+            us.append(f"use {goalmod}.Goals.{{{', '.join(points)}}}")
         open(os.path.join(folder, "Answers.antt"), "w", encoding="utf-8").write(
             "\n".join(head + us + [f"use {goalmod}.Goals as goal"]) + "\n\n" + "\n\n".join(ans) + "\n")
     os.remove(os.path.join(folder, "Proof.antt"))

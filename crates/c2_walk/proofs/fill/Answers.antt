@@ -6,10 +6,11 @@ use native.Mathlib.Omega.{arith}
 use lib.ListN.{length}
 use Rattle.c2_place.proofs.Laws.{walked_none, walked_length, walked_all}
 use Rattle.c2_walk.proofs.Finished.{finished_length}
+use Rattle.c2_walk.proofs.fill.Goals.{At-loop-j}
 use Rattle.c2_walk.proofs.fill.Goals as goal
 
 -- c2 keeps its length
-kept : (c : goal.At-loop-j) → length c.loop-j.c2 ≡ length c.args.c2.now
+kept : (c : At-loop-j) → length c.loop-j.c2 ≡ length c.args.c2.now
 kept c =
     let args = c.args in
     walked_length c.loop-j.invariant
@@ -22,18 +23,18 @@ loop-j-init c =
 
 pub finish_place-requires : goal.finish_place-requires
 finish_place-requires c =
-    (rw (kept c.before.before) c.requires, c.loop-j-test.true)
+    (rw (kept (goal.at.finish_place-requires c).At-loop-j) c.requires, c.loop-j-test.true)
 
 pub loop-j-smaller : goal.loop-j-smaller
 loop-j-smaller c =
-    omega (arith, c.loop-j-test.true, kept c.before.before.before.before.before)
+    omega (arith, c.loop-j-test.true, kept (goal.at.loop-j-smaller c).At-loop-j)
 
 pub loop-j-preserved : goal.loop-j-preserved
 loop-j-preserved c =
-    (rw (kept c.before.before.before.before.before) at c.finish_place.ensures) _ c.loop-j.invariant
+    (rw (kept (goal.at.loop-j-preserved c).At-loop-j) at c.finish_place.ensures) _ c.loop-j.invariant
 
 pub shape_of-c2 : goal.shape_of-c2
-shape_of-c2 c = kept c.before
+shape_of-c2 c = kept (goal.at.shape_of-c2 c).At-loop-j
 
 pub returns : goal.returns
 returns c =

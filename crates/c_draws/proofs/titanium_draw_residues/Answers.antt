@@ -6,4 +6,4 @@ use Rattle.c_draws.proofs.titanium_draw_residues.Goals as goal
 
 pub returns : goal.returns
 returns c =
-    let made = c.residues.ensures in record { answer = c.code.ensures ∙ ap coded made.0; result = made.1 }
+    let made = c.residues.ensures in record { answer = c.code.ensures ∙ ap coded made.answer; result = made.result }

@@ -6,4 +6,4 @@ use Rattle.c_hashes.proofs.titanium_kmacxof256.Goals as goal
 
 pub returns : goal.returns
 returns c =
-    let made = c.kmacxof256.ensures in record { answer = c.code.ensures ∙ ap coded made.0; result = made.1 }
+    let made = c.kmacxof256.ensures in record { answer = c.code.ensures ∙ ap coded made.answer; result = made.result }

@@ -6,4 +6,4 @@ use Rattle.c_ntt_partial.proofs.titanium_partial_inverse.Goals as goal
 
 pub returns : goal.returns
 returns c =
-    let made = c.inverse.ensures in record { answer = c.code.ensures ∙ ap coded made.0; left = made.1 }
+    let made = c.inverse.ensures in record { answer = c.code.ensures ∙ ap coded made.answer; left = made.left }

@@ -6,4 +6,4 @@ use Rattle.c_ntt_partial.proofs.titanium_partial_transform.Goals as goal
 
 pub returns : goal.returns
 returns c =
-    let made = c.forward.ensures in record { answer = c.code.ensures ∙ ap coded made.0; left = made.1 }
+    let made = c.forward.ensures in record { answer = c.code.ensures ∙ ap coded made.answer; left = made.left }

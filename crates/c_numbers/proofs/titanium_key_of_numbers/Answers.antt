@@ -6,4 +6,4 @@ use Rattle.c_numbers.proofs.titanium_key_of_numbers.Goals as goal
 
 pub returns : goal.returns
 returns c =
-    let made = c.key.ensures in record { answer = c.code.ensures ∙ ap coded made.0; left = made.1 }
+    let made = c.key.ensures in record { answer = c.code.ensures ∙ ap coded made.answer; left = made.left }

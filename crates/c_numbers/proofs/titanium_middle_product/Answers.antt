@@ -6,4 +6,4 @@ use Rattle.c_numbers.proofs.titanium_middle_product.Goals as goal
 
 pub returns : goal.returns
 returns c =
-    let made = c.middle_product.ensures in record { answer = c.code.ensures ∙ ap coded made.0; left = made.1 }
+    let made = c.middle_product.ensures in record { answer = c.code.ensures ∙ ap coded made.answer; left = made.left }

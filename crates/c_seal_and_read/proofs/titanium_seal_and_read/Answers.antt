@@ -9,7 +9,7 @@ pub returns : goal.returns
 unfolding seal_and_read_public seal_and_read_secret seal_and_read_ciphertext seal_and_read_message
 returns c =
     let made = c.seal_and_read.ensures in
-    let public = rw made.0 at made.1.0 in
-    let secret = rw made.0 at made.1.1.0 in
-    let sealed = rw made.0 at made.1.1.1.0 in
-    let read = rw made.0 at made.1.1.1.1.0 in let whole = (c.code.ensures ∙ ap coded made.0, (public, (secret, (sealed, (read, made.1.1.1.1.1.0))))) in record { answer = whole.0; given = whole.1; kept = whole.2; sent = whole.3; opened = whole.4; cleared = whole.5 }
+    let public = rw made.answer at made.given.0 in
+    let secret = rw made.answer at made.given.1.0 in
+    let sealed = rw made.answer at made.given.1.1.0 in
+    let read = rw made.answer at made.given.1.1.1.0 in let whole = (c.code.ensures ∙ ap coded made.answer, (public, (secret, (sealed, (read, made.given.1.1.1.1.0))))) in record { answer = whole.0; given = whole.1; kept = whole.2; sent = whole.3; opened = whole.4; cleared = whole.5 }

@@ -9,8 +9,8 @@ pub returns : goal.returns
 unfolding share_aKey_public share_aKey_secret share_aKey_ciphertext share_aKey_sent share_aKey_received
 returns c =
     let made = c.share_a_key.ensures in
-    let public = rw made.0 at made.1.0 in
-    let secret = rw made.0 at made.1.1.0 in
-    let sealed = rw made.0 at made.1.1.1.0 in
-    let sent = rw made.0 at made.1.1.1.1.0 in
-    let received = rw made.0 at made.1.1.1.1.1.0 in let whole = (c.code.ensures ∙ ap coded made.0, (public, (secret, (sealed, (sent, (received, made.1.1.1.1.1.1.0)))))) in record { answer = whole.0; given = whole.1; kept = whole.2; closed = whole.3; agreed = whole.4; opened = whole.5; cleared = whole.6 }
+    let public = rw made.answer at made.given.0 in
+    let secret = rw made.answer at made.given.1.0 in
+    let sealed = rw made.answer at made.given.1.1.0 in
+    let sent = rw made.answer at made.given.1.1.1.0 in
+    let received = rw made.answer at made.given.1.1.1.1.0 in let whole = (c.code.ensures ∙ ap coded made.answer, (public, (secret, (sealed, (sent, (received, made.given.1.1.1.1.1.0)))))) in record { answer = whole.0; given = whole.1; kept = whole.2; closed = whole.3; agreed = whole.4; opened = whole.5; cleared = whole.6 }

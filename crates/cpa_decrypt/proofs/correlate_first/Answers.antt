@@ -17,6 +17,7 @@ use Rattle.ntt_products.specs.Placed.{Placed}
 use Rattle.cpa_decrypt.proofs.First.{first, second_room, first_unpacked, buffer_placed, first_correlated}
 use Rattle.cpa_decrypt.proofs.Room.{tables_rising}
 use borrow.Author.Rules.{rules}
+use Rattle.cpa_decrypt.proofs.correlate_first.Goals.{After-recover_first}
 use Rattle.cpa_decrypt.proofs.correlate_first.Goals as goal
 
 pub slice_bounds-recover_first-end-2 : goal.slice_bounds-recover_first-end-2
@@ -41,7 +42,7 @@ recover_first-requires c =
     )
 
 -- after the recovery
-module _ (c : goal.After-recover_first) where
+module _ (c : After-recover_first) where
 
   -- the set's parameters
   abbrev p : Parameters
@@ -68,22 +69,22 @@ load_tables-requires c = (c.requires.1, search rules)
 
 pub correlate-requires : goal.correlate-requires
 correlate-requires c =
-    let kept = listed_rules (p c.before.before.before.before.before.before.before.before.before.before) c.requires.1 in
+    let kept = listed_rules (p (goal.at.correlate-requires c).After-recover_first) c.requires.1 in
     let count = c.first_count in
     let placed =
-    buffer_placed (p c.before.before.before.before.before.before.before.before.before.before) c.requires.1 c.args.x.now c.args.ciphertext.now c.recover_first.last.1.1.1.0 c.requires.5
-    (front_size c.before.before.before.before.before.before.before.before.before.before) (front_made c.before.before.before.before.before.before.before.before.before.before) in (
+    buffer_placed (p (goal.at.correlate-requires c).After-recover_first) c.requires.1 c.args.x.now c.args.ciphertext.now c.recover_first.new.x c.requires.5
+    (front_size (goal.at.correlate-requires c).After-recover_first) (front_made (goal.at.correlate-requires c).After-recover_first) in (
       c.requires.1,
       c.load_tables.ensures,
-      rw count.ensures (subst⁻¹ (λ (l : List ℕ). Placed (p c.before.before.before.before.before.before.before.before.before.before) 3 ((p c.before.before.before.before.before.before.before.before.before.before).n + (p c.before.before.before.before.before.before.before.before.before.before).k) l) (buffer c.before.before.before.before.before.before.before.before.before.before) placed),
+      rw count.ensures (subst⁻¹ (λ (l : List ℕ). Placed (p (goal.at.correlate-requires c).After-recover_first) 3 ((p (goal.at.correlate-requires c).After-recover_first).n + (p (goal.at.correlate-requires c).After-recover_first).k) l) (buffer (goal.at.correlate-requires c).After-recover_first) placed),
       omega (arith, count.ensures, kept.some_n),
       c.requires.3,
-      omega (arith, count.ensures, third_size (p c.before.before.before.before.before.before.before.before.before.before), kept.holds3, kept.some_n),
+      omega (arith, count.ensures, third_size (p (goal.at.correlate-requires c).After-recover_first), kept.holds3, kept.some_n),
     )
 
 pub returns : goal.returns
 returns c =
     let count = c.first_count in
-    first_correlated (p c.before.before.before.before.before.before.before.before.before.before.before.before.before) c.requires.1 c.args.x.now c.args.ciphertext.now c.recover_first.last.1.1.1.0 c.requires.5
-    (front_size c.before.before.before.before.before.before.before.before.before.before.before.before.before) (front_made c.before.before.before.before.before.before.before.before.before.before.before.before.before) c.args.stored.now c.correlate.new.x _ _ (buffer c.before.before.before.before.before.before.before.before.before.before.before.before.before) count.ensures
+    first_correlated (p (goal.at.returns c).After-recover_first) c.requires.1 c.args.x.now c.args.ciphertext.now c.recover_first.new.x c.requires.5
+    (front_size (goal.at.returns c).After-recover_first) (front_made (goal.at.returns c).After-recover_first) c.args.stored.now c.correlate.new.x _ _ (buffer (goal.at.returns c).After-recover_first) count.ensures
     c.correlate.ensures

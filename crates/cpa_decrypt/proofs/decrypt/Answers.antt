@@ -22,6 +22,7 @@ use Rattle.cpa_decrypt.proofs.Secret.{secret_taken, secret_refused, secret_place
 use Rattle.calls.proofs.Parts.{front_length, part_front, front_room}
 use Rattle.cpa_decrypt.proofs.Room.{secret_room}
 use borrow.Author.Rules.{rules}
+use Rattle.cpa_decrypt.proofs.decrypt.Goals.{After-residues_from-drawn}
 use Rattle.cpa_decrypt.proofs.decrypt.Goals as goal
 
 pub slice_bounds-residues_from-end : goal.slice_bounds-residues_from-end
@@ -38,7 +39,7 @@ residues_from-drawn-requires c =
     ) in record { rules = whole.0; out_nonzero = whole.1 }
 
 -- after the draw: the secret's seed, the set's parameters, the work slice before, and what the left at its front
-module _ (c : goal.After-residues_from-drawn) where
+module _ (c : After-residues_from-drawn) where
   abbrev seed : List ℕ
   seed = c.args.seed.now
 
@@ -61,7 +62,7 @@ module _ (c : goal.After-residues_from-drawn) where
 
   -- the is the one that the definition makes
   answered : uniform_answer p (initial seed) p.bytpcs p.d3 ≡ onward seed c.residues_from-drawn.result
-  answered = sym (rw (front_length work p.d3 room) at c.residues_from-drawn.ensures.0)
+  answered = sym (rw (front_length work p.d3 room) at c.residues_from-drawn.ensures.answer)
 
   module _ {next : ℕ} (told : c.residues_from-drawn.result ≡ Counter next) where
     -- a with a counter has its numbers
@@ -72,7 +73,7 @@ module _ (c : goal.After-residues_from-drawn) where
     stored : take (p.d3 - 0) (drawn ++ drop (p.d3 - 0) work) ≡ stored_secret p seed
     stored =
         part_front drawn _ p.d3 drawn_length
-        ∙ c.residues_from-drawn.ensures.1 secret.xs
+        ∙ c.residues_from-drawn.ensures.result secret.xs
         (ap (λ (n : ℕ). (uniform p (initial seed) p.bytpcs n).drawn) (front_length work p.d3 room) ∙ secret.drawn_is)
         ∙ sym (secret_taken p seed secret.xs secret.drawn_is).1
 
@@ -83,7 +84,7 @@ module _ (c : goal.After-residues_from-drawn) where
         (secret_placed p c.requires.1 seed secret.xs secret.drawn_is)
 
 pub slice_bounds-read-end : goal.slice_bounds-read-end
-slice_bounds-read-end c = front_room (drawn c.before.before.before.before) _ (p c.before.before.before.before).d3 (drawn_length c.before.before.before.before)
+slice_bounds-read-end c = front_room (drawn (goal.at.slice_bounds-read-end c).After-residues_from-drawn) _ (p (goal.at.slice_bounds-read-end c).After-residues_from-drawn).d3 (drawn_length (goal.at.slice_bounds-read-end c).After-residues_from-drawn)
 
 pub read-requires : goal.read-requires
 read-requires c =
@@ -91,7 +92,7 @@ read-requires c =
       c.requires.0,
       c.requires.1,
       c.requires.3,
-      subst⁻¹ (λ (l : List ℕ). Placed (p c.before.before.before.before.before.before) 3 (transform_size_of (p c.before.before.before.before.before.before) 3) l) (stored c told) (stored_placed c told),
+      subst⁻¹ (λ (l : List ℕ). Placed (p (goal.at.read-requires c).After-residues_from-drawn) 3 (transform_size_of (p (goal.at.read-requires c).After-residues_from-drawn) 3) l) (stored c told) (stored_placed c told),
       c.requires.4,
     )
 
@@ -99,15 +100,15 @@ pub returns-in_default : goal.returns-in_default
 returns-in_default c =
     let told = c.in_default.is in
     let bytes = c.requires.0 in
-    let none = answer_refusal (p c.before.before.before.before.before) (initial (seed c.before.before.before.before.before)) (p c.before.before.before.before.before).bytpcs (p c.before.before.before.before.before).d3 bytes.some_bytpcs _ (answered c.before.before.before.before.before ∙ ap (onward (seed c.before.before.before.before.before)) told) in
+    let none = answer_refusal (p (goal.at.returns-in_default c).After-residues_from-drawn) (initial (seed (goal.at.returns-in_default c).After-residues_from-drawn)) (p (goal.at.returns-in_default c).After-residues_from-drawn).bytpcs (p (goal.at.returns-in_default c).After-residues_from-drawn).d3 bytes.some_bytpcs _ (answered (goal.at.returns-in_default c).After-residues_from-drawn ∙ ap (onward (seed (goal.at.returns-in_default c).After-residues_from-drawn)) told) in
     let five = c.refusal_of.ensures ∙ ap refused_by told ∙ none.0 in
-    let call = refused_call _ _ (secret_refused (p c.before.before.before.before.before) (seed c.before.before.before.before.before) none.1) in record { answer = ap (λ (k : ℕ). refused k 0) five ∙ call.0; read = call.1 }
+    let call = refused_call _ _ (secret_refused (p (goal.at.returns-in_default c).After-residues_from-drawn) (seed (goal.at.returns-in_default c).After-residues_from-drawn) none.1) in record { answer = ap (λ (k : ℕ). refused k 0) five ∙ call.0; read = call.1 }
 
 pub returns : goal.returns
 returns c =
     let ct = c.args.ciphertext.now in
     let told = c.in-Counter.is in
-    let found = secret c told in let whole = accepted_call _ _ (secret_taken (p c.before.before.before.before.before.before.before.before.before) (seed c.before.before.before.before.before.before.before.before.before) found.xs found.drawn_is).0
+    let found = secret c told in let whole = accepted_call _ _ (secret_taken (p (goal.at.returns c).After-residues_from-drawn) (seed (goal.at.returns c).After-residues_from-drawn) found.xs found.drawn_is).0
     (c.read.ensures
-    ∙ ap (λ (l : List ℕ). decrypted_message_from (p c.before.before.before.before.before.before.before.before.before) l ct) (stored c told)
-    ∙ opened_message (p c.before.before.before.before.before.before.before.before.before) (seed c.before.before.before.before.before.before.before.before.before) ct) in record { answer = whole.0; read = whole.1 }
+    ∙ ap (λ (l : List ℕ). decrypted_message_from (p (goal.at.returns c).After-residues_from-drawn) l ct) (stored c told)
+    ∙ opened_message (p (goal.at.returns c).After-residues_from-drawn) (seed (goal.at.returns c).After-residues_from-drawn) ct) in record { answer = whole.0; read = whole.1 }

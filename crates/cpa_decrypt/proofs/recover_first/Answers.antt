@@ -14,6 +14,7 @@ use Rattle.cpa_decrypt.specs.Decrypted.{reduced}
 use Rattle.cpa_decrypt.proofs.First.{few}
 use Rattle.cpa_decrypt.proofs.Modulo.{reduced_placed, recovered_reduced}
 use Rattle.cpa_decrypt.proofs.Room.{first_widths, first_double}
+use Rattle.cpa_decrypt.proofs.recover_first.Goals.{After-reduce_all}
 use Rattle.cpa_decrypt.proofs.recover_first.Goals as goal
 
 pub unpack_into-requires : goal.unpack_into-requires
@@ -29,7 +30,7 @@ reduce_all-requires c =
     rw c.unpack_into.ensures (rw (unpack_length p.width (length c.args.x.now) packed) (first_double p kept _ packed), kept.small)
 
 -- after the numbers are taken modulo q: the start, the set's parameters, and the numbers that are packed
-module _ (c : goal.After-reduce_all) where
+module _ (c : After-reduce_all) where
 
   abbrev p : Parameters
   p = c.args.p
@@ -48,14 +49,14 @@ recover_first-requires c =
     let known = c.requires.1 in (
       known,
       c.load_inverse_tables.ensures,
-      rw (made c.before.before.before.before.before.before.before.before) (reduced_placed (p c.before.before.before.before.before.before.before.before) known 2 (numbers c.before.before.before.before.before.before.before.before) (unpack_length _ _ _)),
-      rw c.first_count.ensures (few (p c.before.before.before.before.before.before.before.before) known),
+      rw (made (goal.at.recover_first-requires c).After-reduce_all) (reduced_placed (p (goal.at.recover_first-requires c).After-reduce_all) known 2 (numbers (goal.at.recover_first-requires c).After-reduce_all) (unpack_length _ _ _)),
+      rw c.first_count.ensures (few (p (goal.at.recover_first-requires c).After-reduce_all) known),
     )
 
 pub returns : goal.returns
 returns c =
     let known = c.requires.1 in
-    let n = (p c.before.before.before.before.before.before.before.before.before.before.before).n + (p c.before.before.before.before.before.before.before.before.before.before.before).k in
+    let n = (p (goal.at.returns c).After-reduce_all).n + (p (goal.at.returns c).After-reduce_all).k in
     (rw c.first_count.ensures c c.recover_first.ensures)
-    ∙ ap (recovered (p c.before.before.before.before.before.before.before.before.before.before.before) 2 n) (made c.before.before.before.before.before.before.before.before.before.before.before)
-    ∙ recovered_reduced (p c.before.before.before.before.before.before.before.before.before.before.before) known 2 n (numbers c.before.before.before.before.before.before.before.before.before.before.before) (few (p c.before.before.before.before.before.before.before.before.before.before.before) known)
+    ∙ ap (recovered (p (goal.at.returns c).After-reduce_all) 2 n) (made (goal.at.returns c).After-reduce_all)
+    ∙ recovered_reduced (p (goal.at.returns c).After-reduce_all) known 2 n (numbers (goal.at.returns c).After-reduce_all) (few (p (goal.at.returns c).After-reduce_all) known)

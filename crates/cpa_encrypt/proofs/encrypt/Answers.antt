@@ -3,25 +3,26 @@
 use mathlib.Core.Path.{sym, subst, ◌∙◌}
 use Prim.Native.Nat.{ℕ, ◌+◌, ◌*◌, ◌≤◌}
 use native.Mathlib.Omega.{arith}
-use borrow.Author.Tests.{not-true, not-false}
+use borrow.Author.Tests.{not-false}
 use lib.ListN.{length}
 use Rattle.calls.proofs.Outcome.{refused_call}
 use Rattle.cpa_encrypt.specs.Parts.{KeyResidues}
 use Rattle.calls.proofs.Parts.{front_length}
 use Rattle.sets.proofs.Rules.{listed_rules}
 use Rattle.cpa_encrypt.proofs.Sealed.{ends, key_residues, drawn_multipliers, numbers_refused, draws_decide, held_numbers, held_multipliers}
+use Rattle.cpa_encrypt.proofs.encrypt.Goals.{After-multiplier_count, Start}
 use Rattle.cpa_encrypt.proofs.encrypt.Goals as goal
 
 -- where the multipliers end
-abbrev end : goal.After-multiplier_count → ℕ
+abbrev end : After-multiplier_count → ℕ
 end c = c.args.p.d1 * c.args.p.t + c.multiplier_count.result
 
 -- the numbers of the key and the multipliers fit
-fits : (c : goal.After-multiplier_count) → end c ≤ length c.args.work.now
+fits : (c : After-multiplier_count) → end c ≤ length c.args.work.now
 fits c = omega (arith, (ends c.args.p c.requires.1).numbers_fit, c.multiplier_count.ensures, c.requires.6)
 
 -- few numbers
-few : (c : goal.After-multiplier_count) → end c ≤ 18432
+few : (c : After-multiplier_count) → end c ≤ 18432
 few c =
     let ending = ends c.args.p c.requires.1 in
     omega (arith, ending.few_numbers, ending.few_multipliers, c.multiplier_count.ensures)
@@ -36,34 +37,34 @@ pub overflow_add-end : goal.overflow_add-end
 overflow_add-end c = omega (arith, few c)
 
 -- the seed of the public polynomials is within the key
-seed_fits : (c : goal.Start) → 32 ≤ length c.args.key.now
+seed_fits : (c : Start) → 32 ≤ length c.args.key.now
 seed_fits c = omega (arith, (ends c.args.p c.requires.1).seed_fits, c.requires.2)
 
 pub returns-then-not-load : goal.returns-then-not-load
 returns-then-not-load c =
-    let whole = refused_call _ _ (numbers_refused c.args.p c.args.key.now (sym c.load.ensures.0 ∙ not-true _ c.if-not-load.true)) in record { answer = whole.0; sealed = whole.1 }
+    let whole = refused_call _ _ (numbers_refused c.args.p c.args.key.now (sym c.load.ensures.answer ∙ c.if-not-load.true)) in record { answer = whole.0; sealed = whole.1 }
 
 pub slice_bounds-encrypt_numbers-end : goal.slice_bounds-encrypt_numbers-end
-slice_bounds-encrypt_numbers-end c = omega (arith, seed_fits c.before.before.before.before.before.before.before.before.before.before.before.before)
+slice_bounds-encrypt_numbers-end c = omega (arith, seed_fits (goal.at.slice_bounds-encrypt_numbers-end c).Start)
 
 pub slice_bounds-encrypt_numbers-end-2 : goal.slice_bounds-encrypt_numbers-end-2
-slice_bounds-encrypt_numbers-end-2 c = omega (arith, c.load.auto.work, fits c.before.before.before.before.before.before)
+slice_bounds-encrypt_numbers-end-2 c = omega (arith, c.load.auto.work, fits (goal.at.slice_bounds-encrypt_numbers-end-2 c).After-multiplier_count)
 
 pub offset_bounds-work-keys : goal.offset_bounds-work-keys
-offset_bounds-work-keys c = omega (arith, few c.before.before.before.before.before.before.before)
+offset_bounds-work-keys c = omega (arith, few (goal.at.offset_bounds-work-keys c).After-multiplier_count)
 
 pub slice_bounds-encrypt_numbers-end-3 : goal.slice_bounds-encrypt_numbers-end-3
-slice_bounds-encrypt_numbers-end-3 c = omega (arith, c.load.auto.work, fits c.before.before.before.before.before.before.before)
+slice_bounds-encrypt_numbers-end-3 c = omega (arith, c.load.auto.work, fits (goal.at.slice_bounds-encrypt_numbers-end-3 c).After-multiplier_count)
 
 pub encrypt_numbers-requires : goal.encrypt_numbers-requires
 encrypt_numbers-requires c =
     let p = c.args.p in
     let pre = c.requires in
-    let held = c.load.ensures.1 in
-    let all = sym c.load.ensures.0 ∙ not-false _ c.if-not-load.false in (
+    let held = c.load.ensures.held in
+    let all = sym c.load.ensures.answer ∙ not-false _ c.if-not-load.false in (
       pre.0,
       pre.1,
-      front_length c.args.key.now 32 (seed_fits c.before.before.before.before.before.before.before.before.before.before.before.before.before.before.before.before),
+      front_length c.args.key.now 32 (seed_fits (goal.at.encrypt_numbers-requires c).Start),
       subst (KeyResidues p) (sym (held_numbers p c.args.key.now c.args.seed.now _ held)) (key_residues p c.args.key.now all),
       drawn_multipliers p pre.1 c.args.seed.now _
           (held_multipliers p c.args.key.now c.args.seed.now _ held _ c.multiplier_count.ensures),
@@ -73,7 +74,7 @@ encrypt_numbers-requires c =
 pub returns : goal.returns
 returns c =
     let p = c.args.p in
-    let held = c.load.ensures.1 in
+    let held = c.load.ensures.held in
     let sealed = c.encrypt_numbers.ensures in let whole = draws_decide p c.args.key.now c.args.message.now c.args.seed.now _ _ _ _ _
-    (sym c.load.ensures.0 ∙ not-false _ c.if-not-load.false) (held_numbers p c.args.key.now c.args.seed.now _ held)
-    (held_multipliers p c.args.key.now c.args.seed.now _ held _ c.multiplier_count.ensures) sealed.0 sealed.1 in record { answer = whole.0; sealed = whole.1 }
+    (sym c.load.ensures.answer ∙ not-false _ c.if-not-load.false) (held_numbers p c.args.key.now c.args.seed.now _ held)
+    (held_multipliers p c.args.key.now c.args.seed.now _ held _ c.multiplier_count.ensures) sealed.answer sealed.sealed in record { answer = whole.0; sealed = whole.1 }

@@ -10,6 +10,7 @@ use Rattle.scheme.specs.Encryption.{second_bytes}
 use Rattle.calls.proofs.Parts.{front_length, back_length, rest_length, front_refused}
 use Rattle.sets.proofs.Rules.{listed_rules}
 use Rattle.cpa_encrypt.proofs.Sealed.{both_accepted, ends}
+use Rattle.cpa_encrypt.proofs.encrypt_numbers.Goals.{After-encrypt_first-first, After-packed_bytes-middle}
 use Rattle.cpa_encrypt.proofs.encrypt_numbers.Goals as goal
 
 pub overflow_cast-p : goal.overflow_cast-p
@@ -21,11 +22,11 @@ packed_bytes-middle-requires c =
     omega (arith, (listed_rules c.args.p c.requires.1).most_sealed_bits)
 
 -- the ciphertext lent
-abbrev lent : goal.After-packed_bytes-middle → List ℕ
+abbrev lent : After-packed_bytes-middle → List ℕ
 lent c = c.args.ciphertext.now
 
 -- the part fits
-fits : (c : goal.After-packed_bytes-middle) → c.packed_bytes-middle.result ≤ length (lent c)
+fits : (c : After-packed_bytes-middle) → c.packed_bytes-middle.result ≤ length (lent c)
 fits c =
     let ending = ends c.args.p c.requires.1 in
     omega (arith, c.packed_bytes-middle.ensures, ending.first_is, ending.whole_is, c.requires.5)
@@ -34,30 +35,30 @@ pub slice_bounds-encrypt_first-end : goal.slice_bounds-encrypt_first-end
 slice_bounds-encrypt_first-end c = fits c
 
 -- and is lent whole
-front_size : (c : goal.After-packed_bytes-middle) → length (take (c.packed_bytes-middle.result - 0) (drop 0 (lent c))) ≡ c.packed_bytes-middle.result
+front_size : (c : After-packed_bytes-middle) → length (take (c.packed_bytes-middle.result - 0) (drop 0 (lent c))) ≡ c.packed_bytes-middle.result
 front_size c = front_length (lent c) c.packed_bytes-middle.result (fits c)
 
 pub encrypt_first-first-requires : goal.encrypt_first-first-requires
 encrypt_first-first-requires c =
     let pre = c.requires in
-    (pre.0, pre.1, pre.2, pre.4, front_size c.before ∙ c.packed_bytes-middle.ensures ∙ (ends c.args.p pre.1).first_is)
+    (pre.0, pre.1, pre.2, pre.4, front_size (goal.at.encrypt_first-first-requires c).After-packed_bytes-middle ∙ c.packed_bytes-middle.ensures ∙ (ends c.args.p pre.1).first_is)
 
 -- the part has its length, and so has the whole ciphertext after it is written
-first_size : (c : goal.After-encrypt_first-first) → length c.encrypt_first-first.new.out ≡ c.packed_bytes-middle.result
-first_size c = c.encrypt_first-first.auto.out ∙ front_size c.before.before
+first_size : (c : After-encrypt_first-first) → length c.encrypt_first-first.new.out ≡ c.packed_bytes-middle.result
+first_size c = c.encrypt_first-first.auto.out ∙ front_size (goal.at.After-encrypt_first-first c).After-packed_bytes-middle
 
-abbrev written : goal.After-encrypt_first-first → List ℕ
-written c = let ct = lent c.before.before in take 0 ct ++ (c.encrypt_first-first.new.out ++ drop (c.packed_bytes-middle.result - 0) (drop 0 ct))
+abbrev written : After-encrypt_first-first → List ℕ
+written c = let ct = lent (goal.at.After-encrypt_first-first c).After-packed_bytes-middle in take 0 ct ++ (c.encrypt_first-first.new.out ++ drop (c.packed_bytes-middle.result - 0) (drop 0 ct))
 
-whole_size : (c : goal.After-encrypt_first-first) → length (written c) ≡ length (lent c.before.before)
+whole_size : (c : After-encrypt_first-first) → length (written c) ≡ length (lent (goal.at.After-encrypt_first-first c).After-packed_bytes-middle)
 whole_size c =
-    back_length (lent c.before.before) c.encrypt_first-first.new.out c.packed_bytes-middle.result (first_size c) (fits c.before.before)
+    back_length (lent (goal.at.After-encrypt_first-first c).After-packed_bytes-middle) c.encrypt_first-first.new.out c.packed_bytes-middle.result (first_size c) (fits (goal.at.After-encrypt_first-first c).After-packed_bytes-middle)
 
 pub slice_bounds-encrypt_second-count : goal.slice_bounds-encrypt_second-count
-slice_bounds-encrypt_second-count c = omega (arith, whole_size c.before.before.before.before, fits c.before.before.before.before.before.before)
+slice_bounds-encrypt_second-count c = omega (arith, whole_size (goal.at.slice_bounds-encrypt_second-count c).After-encrypt_first-first, fits (goal.at.slice_bounds-encrypt_second-count c).After-packed_bytes-middle)
 
 pub slice_bounds-encrypt_second-start : goal.slice_bounds-encrypt_second-start
-slice_bounds-encrypt_second-start c = omega (arith, whole_size c.before.before.before.before, fits c.before.before.before.before.before.before)
+slice_bounds-encrypt_second-start c = omega (arith, whole_size (goal.at.slice_bounds-encrypt_second-start c).After-encrypt_first-first, fits (goal.at.slice_bounds-encrypt_second-start c).After-packed_bytes-middle)
 
 pub encrypt_second-requires : goal.encrypt_second-requires
 encrypt_second-requires c =
@@ -69,17 +70,17 @@ encrypt_second-requires c =
       pre.1,
       pre.3,
       pre.4,
-      rest_length (written c.before.before.before.before.before) bytes.result (second_bytes p)
-          (whole_size c.before.before.before.before.before ∙ pre.5 ∙ ending.whole_is ∙ ap (λ (n : ℕ). n + second_bytes p) (sym (bytes.ensures ∙ ending.first_is))),
+      rest_length (written (goal.at.encrypt_second-requires c).After-encrypt_first-first) bytes.result (second_bytes p)
+          (whole_size (goal.at.encrypt_second-requires c).After-encrypt_first-first ∙ pre.5 ∙ ending.whole_is ∙ ap (λ (n : ℕ). n + second_bytes p) (sym (bytes.ensures ∙ ending.first_is))),
     )
 
 pub returns-in_default : goal.returns-in_default
 returns-in_default c =
     let made = c.encrypt_first-first.ensures in
     let told = ap outcome c.in_default.is in
-    let call = front_refused (lent c.before.before.before.before.before.before) _ _ _ c.packed_bytes-middle.result (sym made.0 ∙ told) made.1 in record { answer = told ∙ call.0; sealed = call.1 }
+    let call = front_refused (lent (goal.at.returns-in_default c).After-packed_bytes-middle) _ _ _ c.packed_bytes-middle.result (sym made.answer ∙ told) made.left in record { answer = told ∙ call.0; sealed = call.1 }
 
 pub returns : goal.returns
 returns c =
     let made = c.encrypt_first-first.ensures in
-    let done = sym made.0 ∙ ap outcome c.in-Done.is in let whole = both_accepted (lent c.before.before.before.before.before.before.before.before.before.before) _ _ _ _ c.packed_bytes-middle.result done (first_size c.before.before.before.before.before.before.before.before) made.1 c.encrypt_second.ensures in record { answer = whole.0; sealed = whole.1 }
+    let done = sym made.answer ∙ ap outcome c.in-Done.is in let whole = both_accepted (lent (goal.at.returns c).After-packed_bytes-middle) _ _ _ _ c.packed_bytes-middle.result done (first_size (goal.at.returns c).After-encrypt_first-first) made.left c.encrypt_second.ensures in record { answer = whole.0; sealed = whole.1 }

@@ -17,10 +17,11 @@ use Rattle.cpa_keygen.specs.Held.{vectors_start_of}
 use Rattle.cpa_keygen.proofs.Room.{vectors_room, secret_room}
 use Rattle.calls.proofs.Parts.{part_length}
 use borrow.Author.Rules.{rules}
+use Rattle.cpa_keygen.proofs.draw_errors.Goals.{After-vectors_start-end}
 use Rattle.cpa_keygen.proofs.draw_errors.Goals as goal
 
 -- the errors take the places before the stored vectors
-errors_end : (c : goal.After-vectors_start-end) → c.args.p.d3 + error_count_of c.args.p ≡ c.vectors_start-end.result
+errors_end : (c : After-vectors_start-end) → c.args.p.d3 + error_count_of c.args.p ≡ c.vectors_start-end.result
 errors_end c = secret_room c.args.p c.requires.0 c.requires.1 ∙ sym c.vectors_start-end.ensures
 
 pub offset_bounds-work-start : goal.offset_bounds-work-start
@@ -52,4 +53,4 @@ returns c =
     let state = state_at c.args.seed.now c.args.counter in
     let made : ys ≡ map (residue p.q) (errors_drawn p state) = c.errors_from.ensures in
     let count : length ys ≡ error_count_of p = ap length made ∙ length-map (errors_drawn p state) (residue p.q) ∙ errors_drawn_length p state in
-    over_lent work p.d3 ys c.vectors_start-end.result (omega (arith, errors_end c.before.before.before.before)) ∙ ap (over work p.d3) made
+    over_lent work p.d3 ys c.vectors_start-end.result (omega (arith, errors_end (goal.at.returns c).After-vectors_start-end)) ∙ ap (over work p.d3) made

@@ -14,21 +14,22 @@ use Rattle.calls.proofs.Parts.{front_length}
 use Rattle.scheme.proofs.Taken.{taken_numbers}
 use Rattle.cpa_keygen.proofs.Drawn.{secret_answer, secret_draw_lem}
 use borrow.Author.Rules.{rules}
+use Rattle.cpa_keygen.proofs.draw_stored.Goals.{Start}
 use Rattle.cpa_keygen.proofs.draw_stored.Goals as goal
 
 -- the secret lies in the work slice
-room : (c : goal.Start) → c.args.p.d3 ≤ length c.args.work.now
+room : (c : Start) → c.args.p.d3 ≤ length c.args.work.now
 room c = omega (arith, c.requires.3, vectors_room c.args.p c.requires.0 c.requires.1, secret_room c.args.p c.requires.0 c.requires.1)
 
 pub slice_bounds-residues_from-end : goal.slice_bounds-residues_from-end
-slice_bounds-residues_from-end c = room c.before.before
+slice_bounds-residues_from-end c = room (goal.at.slice_bounds-residues_from-end c).Start
 
 pub residues_from-requires : goal.residues_from-requires
 residues_from-requires c =
     let p = c.args.p in
     let pre = c.requires in
     let kept = listed_rules p pre.1 in
-    let bytes = pre.0 in let whole = rw (front_length c.args.work.now p.d3 (room c.before.before.before)) (
+    let bytes = pre.0 in let whole = rw (front_length c.args.work.now p.d3 (room (goal.at.residues_from-requires c).Start)) (
       (kept, omega (arith, pre.2), bytes.some_bytpcs, bytes.most_bytpcs),
       (omega (arith, kept.some_n, kept.some_d, kept.some_k, kept.holds3), omega (arith, kept.most_d3)),
     ) in record { rules = whole.0; out_nonzero = whole.1 }
@@ -40,6 +41,6 @@ returns c =
     let seed = c.args.seed.now in
     let work = c.args.work.now in
     let drawn = c.residues_from in
-    let front = front_length work p.d3 (room c.before.before.before.before.before.before) in record { answer = drawn.ensures.0 ∙ secret_answer p seed front; result = λ t.
+    let front = front_length work p.d3 (room (goal.at.returns c).Start) in record { answer = drawn.ensures.answer ∙ secret_answer p seed front; result = λ t.
           over_lent work 0 drawn.new.out p.d3 (omega (arith, drawn.auto.out, front))
-          ∙ ap (over work 0) (drawn.ensures.1 (stored_secret p seed) (secret_draw_lem p seed front ∙ taken_numbers (secret_drawn p seed) t)) }
+          ∙ ap (over work 0) (drawn.ensures.result (stored_secret p seed) (secret_draw_lem p seed front ∙ taken_numbers (secret_drawn p seed) t)) }

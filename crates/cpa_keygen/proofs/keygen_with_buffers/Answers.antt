@@ -10,51 +10,52 @@ use Rattle.byte_source.specs.Source.{State, initial}
 use Rattle.byte_source.proofs.Laws.{output_most}
 use Rattle.scheme.specs.Encryption.{secret_seed, public_seed}
 use Rattle.cpa_keygen.proofs.WholeKey.{secret_made, public_made, draws_decide, stored_digits, key_made}
+use Rattle.cpa_keygen.proofs.keygen_with_buffers.Goals.{After-source_bytes, After-source_bytes-next}
 use Rattle.cpa_keygen.proofs.keygen_with_buffers.Goals as goal
 
 -- the lengths of the seeds
-secret_size : (c : goal.After-source_bytes-next) → length c.source_bytes-next.new.out ≡ 32
+secret_size : (c : After-source_bytes-next) → length c.source_bytes-next.new.out ≡ 32
 secret_size c = c.source_bytes-next.auto.out ∙ c.requires.6
 
-public_size : (c : goal.After-source_bytes) → length c.source_bytes.new.out ≡ 32
+public_size : (c : After-source_bytes) → length c.source_bytes.new.out ≡ 32
 public_size c = c.source_bytes.auto.out ∙ c.requires.7
 
 -- seedpk is read with the counter that the output of seedsk left
 pub source_bytes-requires : goal.source_bytes-requires
 source_bytes-requires c =
-    let moved = ap (λ (s : State). s.counter) c.source_bytes-next.ensures.0 in
+    let moved = ap (λ (s : State). s.counter) c.source_bytes-next.ensures.state in
     let most = output_most c.args.p (initial c.args.seed.now) (length c.args.seedsk.now) in
     (omega (arith, c.requires.2), omega (arith, moved, most, c.requires.6, c.requires.7))
 
 -- the seeds are those of the definition
-module _ (c : goal.After-source_bytes) where
+module _ (c : After-source_bytes) where
   first_is : c.source_bytes-next.new.out ≡ secret_seed c.args.p c.args.seed.now
   first_is =
-      secret_made c.args.p c.args.seed.now c.requires.6 c.source_bytes-next.ensures.1
+      secret_made c.args.p c.args.seed.now c.requires.6 c.source_bytes-next.ensures.bytes
 
   second_is : c.source_bytes.new.out ≡ public_seed c.args.p c.args.seed.now
   second_is =
-      public_made c.args.p c.args.seed.now c.requires.6 _ c.requires.7 c.source_bytes-next.ensures.0
-      c.source_bytes.ensures.1
+      public_made c.args.p c.args.seed.now c.requires.6 _ c.requires.7 c.source_bytes-next.ensures.state
+      c.source_bytes.ensures.bytes
 
 pub store_key-stored-requires : goal.store_key-stored-requires
 store_key-stored-requires c =
     let pre = c.requires in
-    (pre.0, pre.1, secret_size c.before.before.before.before.before.before.before, public_size c.before.before.before, pre.5)
+    (pre.0, pre.1, secret_size (goal.at.store_key-stored-requires c).After-source_bytes-next, public_size (goal.at.store_key-stored-requires c).After-source_bytes, pre.5)
 
 pub write_public_key-requires : goal.write_public_key-requires
 write_public_key-requires c =
     let pre = c.requires in
-    let vectors = c.store_key-stored in record { byte_rules = (pre.0, pre.1, public_size c.before.before.before.before.before.before.before.before.before, vectors.auto.work ∙ pre.5, pre.3); digit = stored_digits c.args.p pre.1 _ _ (vectors.ensures.1 (ap outcome c.in-Done.is)) }
+    let vectors = c.store_key-stored in record { byte_rules = (pre.0, pre.1, public_size (goal.at.write_public_key-requires c).After-source_bytes, vectors.auto.work ∙ pre.5, pre.3); digit = stored_digits c.args.p pre.1 _ _ (vectors.ensures.result (ap outcome c.in-Done.is)) }
 
 pub copy_at-requires : goal.copy_at-requires
 copy_at-requires c =
-    omega (arith, secret_size c.before.before.before.before.before.before.before.before.before.before.before.before.before.before.before.before.before, c.requires.4)
+    omega (arith, secret_size (goal.at.copy_at-requires c).After-source_bytes-next, c.requires.4)
 
 pub returns-in_default : goal.returns-in_default
 returns-in_default c =
     let told = ap outcome c.in_default.is in
-    let decided = draws_decide c.args.p c.args.seed.now _ _ (first_is c.before.before.before.before.before.before.before.before) (second_is c.before.before.before.before.before.before.before.before) c.store_key-stored.ensures.0 ∙ told in let whole = (told ∙ sym decided, (sym (leaves_refused _ _ decided), sym (leaves_refused _ _ decided))) in record { answer = whole.0; public = whole.1; secret = whole.2 }
+    let decided = draws_decide c.args.p c.args.seed.now _ _ (first_is (goal.at.returns-in_default c).After-source_bytes) (second_is (goal.at.returns-in_default c).After-source_bytes) c.store_key-stored.ensures.answer ∙ told in let whole = (told ∙ sym decided, (sym (leaves_refused _ _ decided), sym (leaves_refused _ _ decided))) in record { answer = whole.0; public = whole.1; secret = whole.2 }
 
 pub returns : goal.returns
 returns c =
@@ -62,15 +63,15 @@ returns c =
     let p = c.args.p in
     let seed = c.args.seed.now in
     let accepted-key = ap outcome c.in-Done.is in
-    let decided = draws_decide p seed _ _ (first_is c.before.before.before.before.before.before.before.before.before.before.before.before.before.before.before.before) (second_is c.before.before.before.before.before.before.before.before.before.before.before.before.before.before.before.before) vectors.ensures.0 ∙ accepted-key in let whole = (
+    let decided = draws_decide p seed _ _ (first_is (goal.at.returns c).After-source_bytes) (second_is (goal.at.returns c).After-source_bytes) vectors.ensures.answer ∙ accepted-key in let whole = (
       sym decided,
       (
         c.write_public_key.ensures
-            ∙ key_made p seed _ _ (first_is c.before.before.before.before.before.before.before.before.before.before.before.before.before.before.before.before) (second_is c.before.before.before.before.before.before.before.before.before.before.before.before.before.before.before.before) _ (vectors.ensures.1 accepted-key)
+            ∙ key_made p seed _ _ (first_is (goal.at.returns c).After-source_bytes) (second_is (goal.at.returns c).After-source_bytes) _ (vectors.ensures.result accepted-key)
             ∙ sym (leaves_accepted _ _ decided),
         c.copy_at.ensures
-            ∙ over_whole _ _ (secret_size c.before.before.before.before.before.before.before.before.before.before.before.before.before.before.before.before.before.before.before.before ∙ sym c.requires.4)
-            ∙ first_is c.before.before.before.before.before.before.before.before.before.before.before.before.before.before.before.before
+            ∙ over_whole _ _ (secret_size (goal.at.returns c).After-source_bytes-next ∙ sym c.requires.4)
+            ∙ first_is (goal.at.returns c).After-source_bytes
             ∙ sym (leaves_accepted _ _ decided),
       ),
     ) in record { answer = whole.0; public = whole.1; secret = whole.2 }

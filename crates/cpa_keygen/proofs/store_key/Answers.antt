@@ -14,11 +14,11 @@ pub store_vectors-requires : goal.store_vectors-requires
 store_vectors-requires c =
     let pre = c.requires in
     let secret = c.draw_secret-drawn in
-    let drawn = draw_accepted _ accepted (sym secret.ensures.0 ∙ ap outcome c.in-Done.is) in (
+    let drawn = draw_accepted _ accepted (sym secret.ensures.answer ∙ ap outcome c.in-Done.is) in (
       pre.0,
       pre.1,
       pre.3,
-      secret_residues c.args.p pre.0 pre.1 c.args.seedsk.now secret.new.work (secret.ensures.1 drawn.0)
+      secret_residues c.args.p pre.0 pre.1 c.args.seedsk.now secret.new.work (secret.ensures.result drawn.0)
           (secret.auto.work ∙ pre.4),
     )
 
@@ -28,14 +28,14 @@ returns-in_default c =
     let told = ap outcome c.in_default.is in
     let public = refuse (not (all_taken p.t (public_drawn p c.args.seedpk.now))) 5 0 accepted in
     let decided =
-    draw_refused (is_taken (secret_drawn p c.args.seedsk.now)) public (sym c.draw_secret-drawn.ensures.0 ∙ told) in record { answer = told ∙ decided; result = λ e. absurd (accepted_refused e told) }
+    draw_refused (is_taken (secret_drawn p c.args.seedsk.now)) public (sym c.draw_secret-drawn.ensures.answer ∙ told) in record { answer = told ∙ decided; result = λ e. absurd (accepted_refused e told) }
 
 pub returns : goal.returns
 returns c =
     let pre = c.requires in
     let secret = c.draw_secret-drawn in
     let vectors = c.store_vectors in
-    let drawn = draw_accepted _ accepted (sym secret.ensures.0 ∙ ap outcome c.in-Done.is) in record { answer = vectors.ensures.0 ∙ sym (refuse_taken _ drawn.0); result = λ e.
-          key_stored c.args.p pre.0 pre.1 c.args.seedsk.now secret.new.work (secret.ensures.1 drawn.0)
+    let drawn = draw_accepted _ accepted (sym secret.ensures.answer ∙ ap outcome c.in-Done.is) in record { answer = vectors.ensures.answer ∙ sym (refuse_taken _ drawn.0); result = λ e.
+          key_stored c.args.p pre.0 pre.1 c.args.seedsk.now secret.new.work (secret.ensures.result drawn.0)
           (secret.auto.work ∙ pre.4) c.args.seedpk.now _
-          (vectors.ensures.1 (draw_accepted _ accepted (sym vectors.ensures.0 ∙ e)).0) }
+          (vectors.ensures.result (draw_accepted _ accepted (sym vectors.ensures.answer ∙ e)).0) }

@@ -12,13 +12,14 @@ use Rattle.sets.specs.Derived.{is_encryption}
 use Rattle.scheme.specs.Answers.{decrypt_checks, decrypt_draws, decrypt_answer, message_left, decrypt_work}
 use Rattle.scheme.proofs.Answers.{own_listed, own_bytes, decrypt_passed}
 use Rattle.scheme_checks.proofs.Laws.{one_refused, one_drawn}
+use Rattle.encryption.proofs.decrypt.Goals.{In-Done}
 use Rattle.encryption.proofs.decrypt.Goals as goal
 
 pub decrypt_checked-checked-requires : goal.decrypt_checked-checked-requires
 decrypt_checked-checked-requires c = c.parameters_of-p.ensures
 
 -- the checks passed
-passed : (c : goal.In-Done) → let args = c.args in
+passed : (c : In-Done) → let args = c.args in
     decrypt_checks is_encryption args.set (length args.secret.now) (length args.ciphertext.now) (length args.message.now)
     (length args.work.now) ≡ accepted
 unfolding is_encryption
@@ -35,7 +36,7 @@ returns-in_default c =
 pub decrypt_if_below-answer-requires : goal.decrypt_if_below-answer-requires
 decrypt_if_below-answer-requires c =
     let set = c.args.set in
-    let fit = decrypt_passed is_encryption set _ _ _ _ (passed c.before.before) in
+    let fit = decrypt_passed is_encryption set _ _ _ _ (passed (goal.at.decrypt_if_below-answer-requires c).In-Done) in
     let other = encryption_only set fit.0.2 in
     rw c.parameters_of-p.ensures (
       own_bytes is_encryption set fit.0,
@@ -54,4 +55,4 @@ returns c =
     let made = c.decrypt_if_below-answer in
     let left = rw c.parameters_of-p.ensures at made.ensures in let whole = one_drawn (decrypt_draws p args.secret.now args.ciphertext.now) args.work.now
     (decrypted_message p args.secret.now args.ciphertext.now) args.message.now
-    (passed c.before.before.before.before.before.before.before.before.before.before.before) left (c.clear.ensures ∙ ap (λ (n : ℕ). replicate n 0) made.auto.work) in record { answer = whole.0; read = whole.1; cleared = whole.2 }
+    (passed (goal.at.returns c).In-Done) left (c.clear.ensures ∙ ap (λ (n : ℕ). replicate n 0) made.auto.work) in record { answer = whole.0; read = whole.1; cleared = whole.2 }

@@ -2,7 +2,7 @@
 -- Assumes nothing.
 use mathlib.Core.Path.{sym, ◌∙◌}
 use borrow.Author.Rules.{rules}
-use borrow.Author.Tests.{not-true, not-false}
+use borrow.Author.Tests.{not-false}
 use Rattle.calls.proofs.Outcome.{refused_call}
 use Rattle.scheme.proofs.Answers.{reading_refused, reading_passed}
 use Rattle.encryption.proofs.decrypt_if_below.Goals as goal
@@ -13,9 +13,9 @@ decrypt-requires c =
 
 pub returns-then-not-first_below : goal.returns-then-not-first_below
 returns-then-not-first_below c =
-    let whole = refused_call _ _ (reading_refused _ _ _ (sym c.first_below.ensures ∙ not-true _ c.if-not-first_below.true)) in record { answer = whole.0; read = whole.1 }
+    let whole = refused_call _ _ (reading_refused _ _ _ (sym c.first_below.ensures ∙ c.if-not-first_below.true)) in record { answer = whole.0; read = whole.1 }
 
 pub returns : goal.returns
 returns c =
     let opened = c.decrypt in
-    let passed = reading_passed _ _ _ (sym c.first_below.ensures ∙ not-false _ c.if-not-first_below.false) in record { answer = opened.ensures.0 ∙ sym passed; read = opened.ensures.1 ∙ rw passed }
+    let passed = reading_passed _ _ _ (sym c.first_below.ensures ∙ not-false _ c.if-not-first_below.false) in record { answer = opened.ensures.answer ∙ sym passed; read = opened.ensures.read ∙ rw passed }

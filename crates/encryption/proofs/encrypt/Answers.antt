@@ -12,13 +12,14 @@ use Rattle.scheme.specs.Encryption as scheme
 use Rattle.scheme.specs.Answers.{encrypt_checks, encrypt_draws, encrypt_answer, ciphertext_left, encrypt_work}
 use Rattle.scheme.proofs.Answers.{own_listed, own_bytes, encrypt_passed}
 use Rattle.scheme_checks.proofs.Laws.{one_refused, one_drawn}
+use Rattle.encryption.proofs.encrypt.Goals.{In-Done}
 use Rattle.encryption.proofs.encrypt.Goals as goal
 
 pub encrypt_checked-checked-requires : goal.encrypt_checked-checked-requires
 encrypt_checked-checked-requires c = c.parameters_of-p.ensures
 
 -- the checks passed
-passed : (c : goal.In-Done) → let args = c.args in
+passed : (c : In-Done) → let args = c.args in
     encrypt_checks is_encryption args.set (length args.public.now) (length args.message.now) (length args.seed.now)
     (length args.ciphertext.now) (length args.work.now) ≡ accepted
 unfolding is_encryption
@@ -35,7 +36,7 @@ returns-in_default c =
 pub encrypt-answer-requires : goal.encrypt-answer-requires
 encrypt-answer-requires c =
     let set = c.args.set in
-    let fit = encrypt_passed is_encryption set _ _ _ _ _ (passed c.before.before) in
+    let fit = encrypt_passed is_encryption set _ _ _ _ _ (passed (goal.at.encrypt-answer-requires c).In-Done) in
     rw c.parameters_of-p.ensures (
       own_bytes is_encryption set fit.0,
       own_listed is_encryption set fit.0,
@@ -54,4 +55,4 @@ returns c =
     let made = c.encrypt-answer in
     let left = rw c.parameters_of-p.ensures at made.ensures in let whole = one_drawn (encrypt_draws p args.public.now) args.work.now
     (scheme.ciphertext p args.public.now args.message.now args.seed.now) args.ciphertext.now
-    (passed c.before.before.before.before.before.before.before.before.before.before.before) left (c.clear.ensures ∙ ap (λ (n : ℕ). replicate n 0) made.auto.work) in record { answer = whole.0; given = whole.1; cleared = whole.2 }
+    (passed (goal.at.returns c).In-Done) left (c.clear.ensures ∙ ap (λ (n : ℕ). replicate n 0) made.auto.work) in record { answer = whole.0; given = whole.1; cleared = whole.2 }

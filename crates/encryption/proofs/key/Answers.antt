@@ -12,13 +12,14 @@ use Rattle.sets.specs.Derived.{is_encryption}
 use Rattle.scheme.specs.Answers.{key_checks, key_draws, encryption_key_answer, encryption_public_left, encryption_secret_left, encryption_key_work}
 use Rattle.scheme.proofs.Answers.{own_listed, own_bytes, key_passed}
 use Rattle.scheme_checks.proofs.Laws.{two_refused, two_drawn}
+use Rattle.encryption.proofs.key.Goals.{In-Done}
 use Rattle.encryption.proofs.key.Goals as goal
 
 pub key_checked-checked-requires : goal.key_checked-checked-requires
 key_checked-checked-requires c = c.parameters_of-p.ensures
 
 -- the checks passed
-passed : (c : goal.In-Done) → let args = c.args in
+passed : (c : In-Done) → let args = c.args in
     key_checks is_encryption args.set (length args.seed.now) (length args.public.now) (length args.secret.now)
     (length args.work.now) ≡ accepted
 unfolding is_encryption
@@ -36,7 +37,7 @@ returns-in_default c =
 pub keygen-answer-requires : goal.keygen-answer-requires
 keygen-answer-requires c =
     let set = c.args.set in
-    let fit = key_passed is_encryption set _ _ _ _ (passed c.before.before.before) in
+    let fit = key_passed is_encryption set _ _ _ _ (passed (goal.at.keygen-answer-requires c).In-Done) in
     rw c.parameters_of-p.ensures (
       own_bytes is_encryption set fit.0,
       own_listed is_encryption set fit.0,
@@ -55,4 +56,4 @@ returns c =
     let left = rw c.parameters_of-p.ensures at made.ensures in let whole = two_drawn (key_draws p args.seed.now) args.work.now
     (public_key p args.seed.now) args.public.now
     (secret_seed p args.seed.now) args.secret.now
-    (passed c.before.before.before.before.before.before.before.before.before.before.before.before.before.before) left (c.clear.ensures ∙ ap (λ (n : ℕ). replicate n 0) made.auto.work) in record { answer = whole.0; given = whole.1; kept = whole.2; cleared = whole.3 }
+    (passed (goal.at.returns c).In-Done) left (c.clear.ensures ∙ ap (λ (n : ℕ). replicate n 0) made.auto.work) in record { answer = whole.0; given = whole.1; kept = whole.2; cleared = whole.3 }

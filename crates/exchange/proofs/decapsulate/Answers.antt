@@ -11,13 +11,14 @@ use Rattle.sets.specs.Derived.{is_exchange}
 use Rattle.scheme.specs.Answers.{decrypt_checks, decapsulate_draws, decapsulate_answer, decapsulated_left, decapsulate_work}
 use Rattle.scheme.proofs.Answers.{own_listed, own_bytes, decrypt_passed}
 use Rattle.scheme_checks.proofs.Laws.{one_refused, one_drawn}
+use Rattle.exchange.proofs.decapsulate.Goals.{In-Done}
 use Rattle.exchange.proofs.decapsulate.Goals as goal
 
 pub decrypt_checked-checked-requires : goal.decrypt_checked-checked-requires
 decrypt_checked-checked-requires c = c.parameters_of-p.ensures
 
 -- the checks passed
-passed : (c : goal.In-Done) → let args = c.args in
+passed : (c : In-Done) → let args = c.args in
     decrypt_checks is_exchange args.set (length args.secret.now) (length args.ciphertext.now) (length args.shared.now)
     (length args.work.now) ≡ accepted
 unfolding is_exchange
@@ -34,7 +35,7 @@ returns-in_default c =
 pub decapsulated_key-answer-requires : goal.decapsulated_key-answer-requires
 decapsulated_key-answer-requires c =
     let set = c.args.set in
-    let fit = decrypt_passed is_exchange set _ _ _ _ (passed c.before.before) in
+    let fit = decrypt_passed is_exchange set _ _ _ _ (passed (goal.at.decapsulated_key-answer-requires c).In-Done) in
     rw c.parameters_of-p.ensures (
       own_bytes is_exchange set fit.0,
       own_listed is_exchange set fit.0,
@@ -52,4 +53,4 @@ returns c =
     let made = c.decapsulated_key-answer in
     let left = rw c.parameters_of-p.ensures at made.ensures in let whole = one_drawn (decapsulate_draws p args.secret.now) args.work.now
     (decapsulated p args.secret.now args.ciphertext.now) args.shared.now
-    (passed c.before.before.before.before.before.before.before.before.before.before.before) left (c.clear.ensures ∙ ap (λ (n : ℕ). replicate n 0) made.auto.work) in record { answer = whole.0; agreed = whole.1; cleared = whole.2 }
+    (passed (goal.at.returns c).In-Done) left (c.clear.ensures ∙ ap (λ (n : ℕ). replicate n 0) made.auto.work) in record { answer = whole.0; agreed = whole.1; cleared = whole.2 }

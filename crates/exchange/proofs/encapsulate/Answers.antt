@@ -11,13 +11,14 @@ use Rattle.scheme.specs.Exchange.{encapsulated, shared_key}
 use Rattle.scheme.specs.Answers.{encrypt_checks, encrypt_draws, encapsulate_answer, encapsulated_left, shared_key_left, encapsulate_work}
 use Rattle.scheme.proofs.Answers.{own_listed, own_bytes, encrypt_passed}
 use Rattle.scheme_checks.proofs.Laws.{two_refused, two_drawn}
+use Rattle.exchange.proofs.encapsulate.Goals.{In-Done}
 use Rattle.exchange.proofs.encapsulate.Goals as goal
 
 pub encrypt_checked-checked-requires : goal.encrypt_checked-checked-requires
 encrypt_checked-checked-requires c = c.parameters_of-p.ensures
 
 -- the checks passed
-passed : (c : goal.In-Done) → let args = c.args in
+passed : (c : In-Done) → let args = c.args in
     encrypt_checks is_exchange args.set (length args.public.now) (length args.message.now) (length args.shared.now)
     (length args.ciphertext.now) (length args.work.now) ≡ accepted
 unfolding is_exchange
@@ -35,7 +36,7 @@ returns-in_default c =
 pub encapsulated_key-answer-requires : goal.encapsulated_key-answer-requires
 encapsulated_key-answer-requires c =
     let set = c.args.set in
-    let fit = encrypt_passed is_exchange set _ _ _ _ _ (passed c.before.before.before) in
+    let fit = encrypt_passed is_exchange set _ _ _ _ _ (passed (goal.at.encapsulated_key-answer-requires c).In-Done) in
     rw c.parameters_of-p.ensures (
       own_bytes is_exchange set fit.0,
       own_listed is_exchange set fit.0,
@@ -55,4 +56,4 @@ returns c =
     let left = rw c.parameters_of-p.ensures at made.ensures in let whole = two_drawn (encrypt_draws p args.public.now) args.work.now
     (encapsulated p args.public.now args.message.now) args.ciphertext.now
     (shared_key p args.public.now args.message.now) args.shared.now
-    (passed c.before.before.before.before.before.before.before.before.before.before.before.before.before.before) left (c.clear.ensures ∙ ap (λ (n : ℕ). replicate n 0) made.auto.work) in record { answer = whole.0; given = whole.1; agreed = whole.2; cleared = whole.3 }
+    (passed (goal.at.returns c).In-Done) left (c.clear.ensures ∙ ap (λ (n : ℕ). replicate n 0) made.auto.work) in record { answer = whole.0; given = whole.1; agreed = whole.2; cleared = whole.3 }

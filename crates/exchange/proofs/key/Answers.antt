@@ -11,13 +11,14 @@ use Rattle.sets.specs.Derived.{is_exchange}
 use Rattle.scheme.specs.Answers.{key_checks, key_draws, exchange_key_answer, exchange_public_left, exchange_secret_left, exchange_key_work}
 use Rattle.scheme.proofs.Answers.{own_listed, own_bytes, key_passed}
 use Rattle.scheme_checks.proofs.Laws.{two_refused, two_drawn}
+use Rattle.exchange.proofs.key.Goals.{In-Done}
 use Rattle.exchange.proofs.key.Goals as goal
 
 pub key_checked-checked-requires : goal.key_checked-checked-requires
 key_checked-checked-requires c = c.parameters_of-p.ensures
 
 -- the checks passed
-passed : (c : goal.In-Done) → let args = c.args in
+passed : (c : In-Done) → let args = c.args in
     key_checks is_exchange args.set (length args.seed.now) (length args.public.now) (length args.secret.now)
     (length args.work.now) ≡ accepted
 unfolding is_exchange
@@ -35,7 +36,7 @@ returns-in_default c =
 pub keygen-answer-requires : goal.keygen-answer-requires
 keygen-answer-requires c =
     let set = c.args.set in
-    let fit = key_passed is_exchange set _ _ _ _ (passed c.before.before.before) in
+    let fit = key_passed is_exchange set _ _ _ _ (passed (goal.at.keygen-answer-requires c).In-Done) in
     rw c.parameters_of-p.ensures (
       own_bytes is_exchange set fit.0,
       own_listed is_exchange set fit.0,
@@ -54,4 +55,4 @@ returns c =
     let left = rw c.parameters_of-p.ensures at made.ensures in let whole = two_drawn (key_draws p (inner_seed p args.seed.now)) args.work.now
     (exchange_public_key p args.seed.now) args.public.now
     (exchange_secret_key p args.seed.now) args.secret.now
-    (passed c.before.before.before.before.before.before.before.before.before.before.before.before.before.before) left (c.clear.ensures ∙ ap (λ (n : ℕ). replicate n 0) made.auto.work) in record { answer = whole.0; given = whole.1; kept = whole.2; cleared = whole.3 }
+    (passed (goal.at.returns c).In-Done) left (c.clear.ensures ∙ ap (λ (n : ℕ). replicate n 0) made.auto.work) in record { answer = whole.0; given = whole.1; kept = whole.2; cleared = whole.3 }

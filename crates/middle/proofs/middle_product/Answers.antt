@@ -4,39 +4,39 @@ use mathlib.Core.Path.{◌≡◌, sym, ap, ◌∙◌}
 use mathlib.Core.Bool.{true}
 use lib.ListN.{length}
 use native.Mathlib.Omega.{arith}
-use borrow.Author.Tests.{leb-true, eqb-true, not-true, not-false}
+use borrow.Author.Tests.{leb-true, eqb-true}
 use Rattle.calls.specs.Outcome.{outcome, accepted}
 use Rattle.calls.specs.Checks.{all_of}
 use Rattle.calls.proofs.Outcome.{refused_call, accepted_call}
 use Rattle.calls.proofs.Checks.{all_of_each}
 use Rattle.sets.specs.declared.Parameters.{Parameters}
-use Rattle.sets.proofs.Rules.{rules}
+use Rattle.sets.proofs.Rules.{rules as set_rules}
 use Rattle.middle.specs.Calls.{middle_shape, middle_answer, middle_left}
 use Rattle.middle.proofs.Chained.{accepted_two}
 use Rattle.middle.proofs.OpenCall.{opening_set, opening_lengths, operand}
 use Rattle.middle.proofs.MiddleAnswer.{middle_numbers}
-use borrow.Author.Rules.{rules}
+use Rattle.middle.proofs.middle_product.Goals.{After-two_checked-checked, Else-not-lengths_fit}
 use Rattle.middle.proofs.middle_product.Goals as goal
 
 pub returns-then-set-gt-LAST : goal.returns-then-set-gt-LAST
 unfolding middle_answer middle_left
 returns-then-set-gt-LAST c =
-    let whole = refused_call _ _ (opening_set _ _ 6 _ c.if-set-gt-LAST.taken) in record { answer = whole.0; left = whole.1 }
+    let whole = refused_call _ _ (opening_set _ _ 6 _ c.if-set-gt-LAST.true) in record { answer = whole.0; left = whole.1 }
 
 pub returns-then-not-lengths_fit : goal.returns-then-not-lengths_fit
 unfolding middle_answer middle_left
 returns-then-not-lengths_fit c =
-    let whole = refused_call _ _ (opening_lengths _ _ 6 _ c.if-set-gt-LAST.left (sym c.lengths_fit.ensures ∙ not-true _ c.if-not-lengths_fit.taken)) in record { answer = whole.0; left = whole.1 }
+    let whole = refused_call _ _ (opening_lengths _ _ 6 _ c.if-set-gt-LAST.false (sym c.lengths_fit.ensures ∙ c.if-not-lengths_fit.true)) in record { answer = whole.0; left = whole.1 }
 
 -- where the lengths fit
-lengths : (c : goal.Else-not-lengths_fit)
+lengths : (c : Else-not-lengths_fit)
     → all_of (middle_shape (length c.args.a.now)
     (length c.args.b.now)
     (length c.args.out.now)) ≡ true
-lengths c = sym c.lengths_fit.ensures ∙ not-false _ c.if-not-lengths_fit.left
+lengths c = sym c.lengths_fit.ensures ∙ c.if-not-lengths_fit.false
 
 -- the numbers decide
-decided : (c : goal.After-two_checked-checked)
+decided : (c : After-two_checked-checked)
     → middle_answer c.args.set
     c.args.a.now
     c.args.b.now
@@ -44,7 +44,7 @@ decided : (c : goal.After-two_checked-checked)
 decided c =
     middle_numbers c.args.set c.args.a.now c.args.b.now (length c.args.out.now)
     c.parameters_of-p.result.q (ap (λ (p : Parameters). p.q) c.parameters_of-p.ensures)
-    c.if-set-gt-LAST.left (lengths c.before)
+    c.if-set-gt-LAST.false (lengths (goal.at.After-two_checked-checked c).Else-not-lengths_fit)
     ∙ sym c.two_checked-checked.ensures
 
 pub two_checked-checked-requires : goal.two_checked-checked-requires
@@ -55,9 +55,9 @@ fill-requires c =
     let q = c.parameters_of-p.result.q in
     let a = c.args.a.now in
     let b = c.args.b.now in
-    let each = all_of_each _ (lengths c.before.before.before.before) in
+    let each = all_of_each _ (lengths (goal.at.fill-requires c).Else-not-lengths_fit) in
     let kept = rw (← c.parameters_of-p.ensures) at
-    (rules c.args.set (omega (arith, c.if-set-gt-LAST.left))) in
+    (set_rules c.args.set (omega (arith, c.if-set-gt-LAST.false))) in
     let numbers = accepted_two q a b accepted (sym c.two_checked-checked.ensures ∙ ap outcome c.in-Done.is) in (
       operand kept.small (omega (arith, leb-true, eqb-true)) numbers.0,
       operand kept.small (omega (arith, leb-true, eqb-true)) numbers.1,
@@ -69,10 +69,10 @@ fill-requires c =
 pub returns-in-Refused : goal.returns-in-Refused
 unfolding middle_left
 returns-in-Refused c =
-    let whole = refused_call _ _ (decided c.before.before.before ∙ ap outcome c.in-Refused.is) in record { answer = whole.0; left = whole.1 }
+    let whole = refused_call _ _ (decided (goal.at.returns-in-Refused c).After-two_checked-checked ∙ ap outcome c.in-Refused.is) in record { answer = whole.0; left = whole.1 }
 
 pub returns-in-Done : goal.returns-in-Done
 unfolding middle_left
 returns-in-Done c =
-    let whole = accepted_call _ _ (decided c.before.before.before.before.before.before ∙ ap outcome c.in-Done.is)
+    let whole = accepted_call _ _ (decided (goal.at.returns-in-Done c).After-two_checked-checked ∙ ap outcome c.in-Done.is)
     (c.fill.ensures ∙ rw c.parameters_of-p.ensures) in record { answer = whole.0; left = whole.1 }

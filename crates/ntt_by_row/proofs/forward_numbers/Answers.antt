@@ -8,10 +8,11 @@ use lib.ListN.{length, take}
 use lib.Seq.{length-take-le}
 use Rattle.calls.proofs.Parts.{array_front}
 use Rattle.ntt_by_row.proofs.Lent.{copied}
+use Rattle.ntt_by_row.proofs.forward_numbers.Goals.{After-copy_in}
 use Rattle.ntt_by_row.proofs.forward_numbers.Goals as goal
 
 -- the numbers that were copied
-buffer_front : (c : goal.After-copy_in) → let args = c.args in take (args.n - 0) c.copy_in.new.work ≡ take args.n args.x.now
+buffer_front : (c : After-copy_in) → let args = c.args in take (args.n - 0) c.copy_in.new.work ≡ take args.n args.x.now
 buffer_front c =
     let whole : c.args.n - 0 ≡ c.args.n = omega arith in
     let size : length (take c.args.n c.args.x.now) ≡ c.args.n = length-take-le c.args.n c.args.x.now c.requires.3 in
@@ -20,7 +21,7 @@ buffer_front c =
 pub forward_with_buffer-requires : goal.forward_with_buffer-requires
 forward_with_buffer-requires c =
     let size = length-take-le c.args.n c.args.x.now c.requires.3 in
-    rw (buffer_front c.before.before.before.before) (
+    rw (buffer_front (goal.at.forward_with_buffer-requires c).After-copy_in) (
       c.requires.0,
       size ∙ sym (mul-one _),
       omega (arith, c.requires.1, c.requires.3),
@@ -32,4 +33,4 @@ forward_with_buffer-requires c =
 pub returns : goal.returns
 returns c w table whole =
     c.forward_with_buffer.ensures w table whole
-    ∙ rw (buffer_front c.before.before.before.before.before.before.before.before)
+    ∙ rw (buffer_front (goal.at.returns c).After-copy_in)

@@ -25,7 +25,6 @@ overflow_add-sums c =
     let turn = c.loop-j in
     let pre = c.requires in
     let old = pre.room.each turn.j c.loop-j-test.true in
-    let odd = pre.modulus.modulus in
     record { fits = rw (turn.invariant.rest turn.j (omega arith)) (omega (arith, c.step.ensures.1)) }
 
 pub loop-j-preserved : goal.loop-j-preserved

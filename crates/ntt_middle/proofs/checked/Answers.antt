@@ -7,10 +7,11 @@ use Rattle.calls.proofs.Outcome.{refused_call, accepted_call}
 use Rattle.sets.proofs.Rules.{listed_rules}
 use Rattle.middle.proofs.Chained.{accepted_two}
 use Rattle.ntt_middle.specs.Calls.{numbers_checked_of}
+use Rattle.ntt_middle.proofs.checked.Goals.{After-two_checked-numbers}
 use Rattle.ntt_middle.proofs.checked.Goals as goal
 
 -- the answer of the check is that of the definition
-decided : (c : goal.After-two_checked-numbers) → let args = c.args in
+decided : (c : After-two_checked-numbers) → let args = c.args in
     numbers_checked_of args.p.q args.a.now args.b.now ≡ outcome c.two_checked-numbers.result
 unfolding numbers_checked_of
 decided c = sym c.two_checked-numbers.ensures
@@ -29,9 +30,9 @@ fill-requires c =
 
 pub returns-in-Refused : goal.returns-in-Refused
 returns-in-Refused c =
-    let whole = refused_call _ _ (decided c.before.before.before ∙ ap outcome c.in-Refused.is) in record { answer = whole.0; left = whole.1 }
+    let whole = refused_call _ _ (decided (goal.at.returns-in-Refused c).After-two_checked-numbers ∙ ap outcome c.in-Refused.is) in record { answer = whole.0; left = whole.1 }
 
 pub returns-in-Done : goal.returns-in-Done
 returns-in-Done c =
-    let whole = accepted_call _ _ (decided c.before.before.before.before.before.before.before.before.before
+    let whole = accepted_call _ _ (decided (goal.at.returns-in-Done c).After-two_checked-numbers
     ∙ ap outcome c.in-Done.is) c.fill.ensures in record { answer = whole.0; left = whole.1 }

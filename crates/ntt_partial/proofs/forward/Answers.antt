@@ -7,30 +7,30 @@ use Rattle.calls.specs.Outcome.{outcome, accepted}
 use Rattle.calls.proofs.Outcome.{refused_call, accepted_call}
 use Rattle.sets.specs.declared.Parameters.{Parameters}
 use Rattle.sets.specs.Table.{set_of}
-use Rattle.sets.proofs.Rules.{rules, listed_set}
+use Rattle.sets.proofs.Rules.{rules as set_rules, listed_set}
 use Rattle.ntt_partial_checks.specs.Checks.{size_number_of, partial_answer_of}
 use Rattle.ntt_partial.specs.Calls.{partial_sent, partial_left}
 use Rattle.ntt_partial.proofs.Accepted.{Accepted, call_accepted, call_wide, wide_sent}
-use borrow.Author.Rules.{rules}
+use Rattle.ntt_partial.proofs.forward.Goals.{After-size_number-i, In-Done}
 use Rattle.ntt_partial.proofs.forward.Goals as goal
 
 pub checked-answer-requires : goal.checked-answer-requires
 checked-answer-requires c = c.parameters_of-p.ensures
 
 -- the checks accept
-checks : (c : goal.In-Done)
+checks : (c : In-Done)
     → let args = c.args in
     partial_answer_of args.set args.rows args.row args.m args.input.now (length args.out.now) ≡ accepted
 checks c = sym c.checked-answer.ensures ∙ ap outcome c.in-Done.is
 
 -- so the call is one that they accept
-call : (c : goal.In-Done)
+call : (c : In-Done)
     → let args = c.args in
     Accepted args.set args.rows args.row args.m args.input.now (length args.out.now)
 call c = call_accepted _ _ _ _ _ _ (checks c)
 
 -- the number of the transform
-number : (c : goal.After-size_number-i)
+number : (c : After-size_number-i)
     → let args = c.args in
     c.size_number-i.result ≡ size_number_of (set_of args.set) (args.rows * args.row)
 number c =
@@ -44,26 +44,26 @@ returns-in_default c =
 
 pub size_number-i-requires : goal.size_number-i-requires
 size_number-i-requires c =
-    rw c.parameters_of-p.ensures (rules c.args.set (call c).low)
+    rw c.parameters_of-p.ensures (set_rules c.args.set (call c).low)
 
 pub forward_wide-requires : goal.forward_wide-requires
 forward_wide-requires c =
-    let made = call c.before.before.before in
-    rw (number c.before.before, c.parameters_of-p.ensures)
-    (listed_set _ made.low, call_wide made c.if-row-eq256.taken, made.output ∙ sym made.split.places)
+    let made = call (goal.at.forward_wide-requires c).In-Done in
+    rw (number (goal.at.forward_wide-requires c).After-size_number-i, c.parameters_of-p.ensures)
+    (listed_set _ made.low, call_wide made c.if-row-eq256.true, made.output ∙ sym made.split.places)
 
 pub returns-then-row-eq256 : goal.returns-then-row-eq256
 unfolding partial_left
 returns-then-row-eq256 c =
-    let made = call c.before.before.before.before.before.before in
-    let sent = rw (number c.before.before.before.before.before, c.parameters_of-p.ensures) at c.forward_wide.ensures in let whole = accepted_call _ _ (checks c.before.before.before.before.before.before) (sent ∙ wide_sent made c.if-row-eq256.taken) in record { answer = whole.0; left = whole.1 }
+    let made = call (goal.at.returns-then-row-eq256 c).In-Done in
+    let sent = rw (number (goal.at.returns-then-row-eq256 c).After-size_number-i, c.parameters_of-p.ensures) at c.forward_wide.ensures in let whole = accepted_call _ _ (checks (goal.at.returns-then-row-eq256 c).In-Done) (sent ∙ wide_sent made c.if-row-eq256.true) in record { answer = whole.0; left = whole.1 }
 
 pub forward_plain-requires : goal.forward_plain-requires
 forward_plain-requires c =
-    let made = call c.before.before.before in
-    rw (number c.before.before, c.parameters_of-p.ensures) (listed_set _ made.low, made.split, made.output)
+    let made = call (goal.at.forward_plain-requires c).In-Done in
+    rw (number (goal.at.forward_plain-requires c).After-size_number-i, c.parameters_of-p.ensures) (listed_set _ made.low, made.split, made.output)
 
 pub returns : goal.returns
 unfolding partial_left partial_sent
 returns c =
-    let whole = accepted_call _ _ (checks c.before.before.before.before.before.before) (rw (number c.before.before.before.before.before, c.parameters_of-p.ensures) at c.forward_plain.ensures) in record { answer = whole.0; left = whole.1 }
+    let whole = accepted_call _ _ (checks (goal.at.returns c).In-Done) (rw (number (goal.at.returns c).After-size_number-i, c.parameters_of-p.ensures) at c.forward_plain.ensures) in record { answer = whole.0; left = whole.1 }

@@ -10,30 +10,30 @@ use Rattle.calls.specs.Outcome.{outcome, accepted}
 use Rattle.calls.proofs.Outcome.{refused_call, accepted_call}
 use Rattle.sets.specs.declared.Parameters.{Parameters}
 use Rattle.sets.specs.Table.{set_of}
-use Rattle.sets.proofs.Rules.{rules, listed_set}
+use Rattle.sets.proofs.Rules.{rules as set_rules, listed_set}
 use Rattle.ntt_partial_checks.specs.Checks.{size_number_of, partial_answer_of}
 use Rattle.ntt_partial.specs.Calls.{partial_recovered, partial_inverse_left}
 use Rattle.ntt_partial.proofs.Accepted.{Accepted, call_accepted, call_wide, wide_recovered, rows_few, rows_within}
-use borrow.Author.Rules.{rules}
+use Rattle.ntt_partial.proofs.inverse.Goals.{After-size_number-i, In-Done}
 use Rattle.ntt_partial.proofs.inverse.Goals as goal
 
 pub checked-answer-requires : goal.checked-answer-requires
 checked-answer-requires c = c.parameters_of-p.ensures
 
 -- the checks accept
-checks : (c : goal.In-Done)
+checks : (c : In-Done)
     → let args = c.args in
     partial_answer_of args.set args.rows args.row args.m args.input.now (length args.out.now) ≡ accepted
 checks c = sym c.checked-answer.ensures ∙ ap outcome c.in-Done.is
 
 -- so the call is one that they accept
-call : (c : goal.In-Done)
+call : (c : In-Done)
     → let args = c.args in
     Accepted args.set args.rows args.row args.m args.input.now (length args.out.now)
 call c = call_accepted _ _ _ _ _ _ (checks c)
 
 -- the number of the transform
-number : (c : goal.After-size_number-i)
+number : (c : After-size_number-i)
     → let args = c.args in
     c.size_number-i.result ≡ size_number_of (set_of args.set) (args.rows * args.row)
 number c =
@@ -47,19 +47,19 @@ returns-in_default c =
 
 pub size_number-i-requires : goal.size_number-i-requires
 size_number-i-requires c =
-    rw c.parameters_of-p.ensures (rules c.args.set (call c).low)
+    rw c.parameters_of-p.ensures (set_rules c.args.set (call c).low)
 
 -- the rows that are written
-rows : (c : goal.After-size_number-i) → let args = c.args in args.m * args.row ≤ length args.out.now
-rows c = let made = call c.before in omega (arith, rows_within made, made.output)
+rows : (c : After-size_number-i) → let args = c.args in args.m * args.row ≤ length args.out.now
+rows c = let made = call (goal.at.After-size_number-i c).In-Done in omega (arith, rows_within made, made.output)
 
 -- where they end
-end : (c : goal.After-size_number-i)
+end : (c : After-size_number-i)
     → let args = c.args in args.m * args.row - 0 ≡ args.m * args.row
 end c = omega arith
 
 -- and how many numbers they have
-lent : (c : goal.After-size_number-i)
+lent : (c : After-size_number-i)
     → let args = c.args in
     length (take (args.m * args.row - 0) args.out.now) ≡ args.m * args.row
 lent c =
@@ -67,36 +67,36 @@ lent c =
     rw (end c) (length-take-le (args.m * args.row) args.out.now (rows c))
 
 pub overflow_mul-end : goal.overflow_mul-end
-overflow_mul-end c = let made = call c.before in record { fits = omega (arith, rows_within made, rows_few made) }
+overflow_mul-end c = let made = call (goal.at.overflow_mul-end c).In-Done in record { fits = omega (arith, rows_within made, rows_few made) }
 
 pub slice_bounds-inverse_wide-end : goal.slice_bounds-inverse_wide-end
-slice_bounds-inverse_wide-end c = rows c.before
+slice_bounds-inverse_wide-end c = rows (goal.at.slice_bounds-inverse_wide-end c).After-size_number-i
 
 pub inverse_wide-requires : goal.inverse_wide-requires
 inverse_wide-requires c =
-    let made = call c.before.before.before in
-    let wide = c.if-row-eq256.taken in
-    let size = lent c.before.before ∙ ap (λ (n : ℕ). c.args.m * n) wide in
-    rw (number c.before.before, c.parameters_of-p.ensures) (listed_set _ made.low, call_wide made wide, size)
+    let made = call (goal.at.inverse_wide-requires c).In-Done in
+    let wide = c.if-row-eq256.true in
+    let size = lent (goal.at.inverse_wide-requires c).After-size_number-i ∙ ap (λ (n : ℕ). c.args.m * n) wide in
+    rw (number (goal.at.inverse_wide-requires c).After-size_number-i, c.parameters_of-p.ensures) (listed_set _ made.low, call_wide made wide, size)
 
 pub returns-then-row-eq256 : goal.returns-then-row-eq256
 unfolding partial_inverse_left
 returns-then-row-eq256 c =
     let args = c.args in
-    let made = call c.before.before.before.before.before.before in
-    let recovered = rw (number c.before.before.before.before.before, c.parameters_of-p.ensures) at c.inverse_wide.ensures in
-    let whole = recovered ∙ wide_recovered made c.if-row-eq256.taken in let whole = accepted_call _ _ (checks c.before.before.before.before.before.before) (rw (end c.before.before.before.before.before) (ap (λ (l : List ℕ). l ++ drop (args.m * args.row) args.out.now) whole)) in record { answer = whole.0; left = whole.1 }
+    let made = call (goal.at.returns-then-row-eq256 c).In-Done in
+    let recovered = rw (number (goal.at.returns-then-row-eq256 c).After-size_number-i, c.parameters_of-p.ensures) at c.inverse_wide.ensures in
+    let whole = recovered ∙ wide_recovered made c.if-row-eq256.true in let whole = accepted_call _ _ (checks (goal.at.returns-then-row-eq256 c).In-Done) (rw (end (goal.at.returns-then-row-eq256 c).After-size_number-i) (ap (λ (l : List ℕ). l ++ drop (args.m * args.row) args.out.now) whole)) in record { answer = whole.0; left = whole.1 }
 
 pub slice_bounds-inverse_plain-end : goal.slice_bounds-inverse_plain-end
-slice_bounds-inverse_plain-end c = rows c.before
+slice_bounds-inverse_plain-end c = rows (goal.at.slice_bounds-inverse_plain-end c).After-size_number-i
 
 pub inverse_plain-requires : goal.inverse_plain-requires
 inverse_plain-requires c =
-    let made = call c.before.before.before in
-    rw (number c.before.before, c.parameters_of-p.ensures) (listed_set _ made.low, made.split, lent c.before.before)
+    let made = call (goal.at.inverse_plain-requires c).In-Done in
+    rw (number (goal.at.inverse_plain-requires c).After-size_number-i, c.parameters_of-p.ensures) (listed_set _ made.low, made.split, lent (goal.at.inverse_plain-requires c).After-size_number-i)
 
 pub returns : goal.returns
 unfolding partial_inverse_left partial_recovered
 returns c =
     let args = c.args in
-    let recovered = rw (number c.before.before.before.before.before, c.parameters_of-p.ensures) at c.inverse_plain.ensures in let whole = accepted_call _ _ (checks c.before.before.before.before.before.before) (rw (end c.before.before.before.before.before) (ap (λ (l : List ℕ). l ++ drop (args.m * args.row) args.out.now) recovered)) in record { answer = whole.0; left = whole.1 }
+    let recovered = rw (number (goal.at.returns c).After-size_number-i, c.parameters_of-p.ensures) at c.inverse_plain.ensures in let whole = accepted_call _ _ (checks (goal.at.returns c).In-Done) (rw (end (goal.at.returns c).After-size_number-i) (ap (λ (l : List ℕ). l ++ drop (args.m * args.row) args.out.now) recovered)) in record { answer = whole.0; left = whole.1 }

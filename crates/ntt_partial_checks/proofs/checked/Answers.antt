@@ -11,6 +11,7 @@ use Rattle.sets.proofs.Rules.{rules}
 use Rattle.sets.proofs.Transforms.{size_most}
 use Rattle.ntt_partial_checks.specs.Checks.{size_number_of, partial_answer_of}
 use Rattle.ntt_partial_checks.proofs.Sizes.{size_found}
+use Rattle.ntt_partial_checks.proofs.checked.Goals.{After-size_number, Else-size_number-eq0}
 use Rattle.ntt_partial_checks.proofs.checked.Goals as goal
 
 pub returns-then-set-lt1 : goal.returns-then-set-lt1
@@ -45,7 +46,7 @@ size_number-requires c =
     rw c.requires (rules c.args.set (omega arith))
 
 -- the number of the transform
-number : (c : goal.After-size_number)
+number : (c : After-size_number)
     → let args = c.args in
     c.size_number.result ≡ size_number_of (set_of args.set) (args.rows * args.row)
 number c =
@@ -60,14 +61,14 @@ returns-then-size_number-eq0 c =
       le-ltb last_set args.set (omega arith),
       le-ltb args.m 1 (omega arith),
       le-ltb args.rows args.m (omega arith),
-      eq-eqb (size_number_of (set_of args.set) (args.rows * args.row)) 0 (sym (number c.before) ∙ c.if-size_number-eq0.taken),
+      eq-eqb (size_number_of (set_of args.set) (args.rows * args.row)) 0 (sym (number (goal.at.returns-then-size_number-eq0 c).After-size_number) ∙ c.if-size_number-eq0.true),
     )
 
 -- the size is small
-size : (c : goal.Else-size_number-eq0) → let args = c.args in args.rows * args.row ≤ 3328
+size : (c : Else-size_number-eq0) → let args = c.args in args.rows * args.row ≤ 3328
 size c =
     let args = c.args in
-    rw (← size_found (set_of args.set) (args.rows * args.row) (λ e. c.if-size_number-eq0.left (number c.before ∙ e)))
+    rw (← size_found (set_of args.set) (args.rows * args.row) (λ e. c.if-size_number-eq0.false (number (goal.at.Else-size_number-eq0 c).After-size_number ∙ e)))
     (size_most (set_of args.set) (rules args.set (omega arith)) (size_number_of (set_of args.set) (args.rows * args.row)))
 
 pub overflow_mul-size : goal.overflow_mul-size
@@ -82,8 +83,8 @@ returns-then-input-size c =
       le-ltb last_set args.set (omega arith),
       le-ltb args.m 1 (omega arith),
       le-ltb args.rows args.m (omega arith),
-      ne_eqb (size_number_of (set_of args.set) (args.rows * args.row)) 0 (λ e. c.if-size_number-eq0.left (number c.before.before ∙ e)),
-      ne_eqb (length args.input.now) (args.rows * args.row) c.if-input-size.taken,
+      ne_eqb (size_number_of (set_of args.set) (args.rows * args.row)) 0 (λ e. c.if-size_number-eq0.false (number (goal.at.returns-then-input-size c).After-size_number ∙ e)),
+      ne_eqb (length args.input.now) (args.rows * args.row) c.if-input-size.true,
     )
 
 pub returns-then-places-size : goal.returns-then-places-size
@@ -95,13 +96,13 @@ returns-then-places-size c =
       le-ltb last_set args.set (omega arith),
       le-ltb args.m 1 (omega arith),
       le-ltb args.rows args.m (omega arith),
-      ne_eqb (size_number_of (set_of args.set) (args.rows * args.row)) 0 (λ e. c.if-size_number-eq0.left (number c.before.before.before ∙ e)),
-      eq-eqb (length args.input.now) (args.rows * args.row) c.if-input-size.left,
-      ne_eqb args.places (args.rows * args.row) c.if-places-size.taken,
+      ne_eqb (size_number_of (set_of args.set) (args.rows * args.row)) 0 (λ e. c.if-size_number-eq0.false (number (goal.at.returns-then-places-size c).After-size_number ∙ e)),
+      eq-eqb (length args.input.now) (args.rows * args.row) c.if-input-size.false,
+      ne_eqb args.places (args.rows * args.row) c.if-places-size.true,
     )
 
 pub one_checked-requires : goal.one_checked-requires
-one_checked-requires c = omega (arith, size c.before.before, c.if-input-size.left)
+one_checked-requires c = omega (arith, size (goal.at.one_checked-requires c).Else-size_number-eq0, c.if-input-size.false)
 
 pub returns : goal.returns
 unfolding partial_answer_of
@@ -113,9 +114,9 @@ returns c =
       le-ltb args.m 1 (omega arith),
       le-ltb args.rows args.m (omega arith),
       ne_eqb (size_number_of (set_of args.set) (args.rows * args.row)) 0
-          (λ e. c.if-size_number-eq0.left (number c.before.before.before.before ∙ e)),
-      eq-eqb (length args.input.now) (args.rows * args.row) c.if-input-size.left,
-      eq-eqb args.places (args.rows * args.row) c.if-places-size.left,
+          (λ e. c.if-size_number-eq0.false (number (goal.at.returns c).After-size_number ∙ e)),
+      eq-eqb (length args.input.now) (args.rows * args.row) c.if-input-size.false,
+      eq-eqb args.places (args.rows * args.row) c.if-places-size.false,
       ← c.requires,
     )
     c.one_checked.ensures

@@ -7,10 +7,11 @@ use lib.ListN.{take}
 use Rattle.calls.specs.Region.{over}
 use Rattle.ntt_products.specs.Stored.{sent}
 use Rattle.ntt_partial_steps.proofs.Rows.{wide_copied, wide_placed}
+use Rattle.ntt_partial_steps.proofs.forward_with_tables.Goals.{After-copy_in}
 use Rattle.ntt_partial_steps.proofs.forward_with_tables.Goals as goal
 
 -- the rows that were copied
-copied : (c : goal.After-copy_in)
+copied : (c : After-copy_in)
     → c.copy_in.new.work ≡ over c.args.out.now 0 (take (c.args.m * 256) c.args.input.now)
 copied c =
     let end : c.args.m * 256 - 0 ≡ c.args.m * 256 = omega arith in
@@ -19,9 +20,9 @@ copied c =
 pub send_first-requires : goal.send_first-requires
 send_first-requires c =
     let placed = wide_placed c.requires.1 c.args.out.now c.requires.2 in
-    (c.requires.0, c.load_tables.ensures, rw (copied c.before.before.before.before.before.before.before) placed)
+    (c.requires.0, c.load_tables.ensures, rw (copied (goal.at.send_first-requires c).After-copy_in) placed)
 
 pub returns : goal.returns
 returns c =
     c.send_first.ensures
-    ∙ ap (sent c.args.p c.args.i) (rw (copied c.before.before.before.before.before.before.before.before.before.before) (wide_copied c.requires.1 c.args.out.now c.requires.2))
+    ∙ ap (sent c.args.p c.args.i) (rw (copied (goal.at.returns c).After-copy_in) (wide_copied c.requires.1 c.args.out.now c.requires.2))

@@ -10,6 +10,7 @@ use Rattle.sets.proofs.Rules.{listed_rules}
 use Rattle.ntt_products.specs.Stored.{root_inverse_of, inverse_powers}
 use Rattle.ntt_products.proofs.Laws.{size_rows, inverse_below, rows_root_inverse}
 use Rattle.ntt_partial_steps.proofs.Rows.{rows_fit, plain_whole}
+use Rattle.ntt_partial_steps.proofs.inverse_with_powers.Goals.{After-load_inverse_powers}
 use Rattle.ntt_partial_steps.proofs.inverse_with_powers.Goals as goal
 
 pub size_inverse_of-e-requires : goal.size_inverse_of-e-requires
@@ -17,7 +18,7 @@ size_inverse_of-e-requires c =
     listed_rules c.args.p c.requires.0
 
 -- the powers that are loaded
-table : (c : goal.After-load_inverse_powers)
+table : (c : After-load_inverse_powers)
     → c.load_inverse_powers.new.out ≡ power_table c.args.p.q (root_inverse_of c.args.p c.args.i)
     (c.args.rows * c.args.row)
 unfolding inverse_powers
@@ -25,7 +26,7 @@ table c =
     c.load_inverse_powers.ensures ∙ rw c.requires.1.size
 
 -- they are as many as the places
-long : (c : goal.After-load_inverse_powers)
+long : (c : After-load_inverse_powers)
     → length c.load_inverse_powers.new.out ≡ c.args.rows * c.args.row
 long c = ap length (table c) ∙ power_table_length _ _ _
 
@@ -34,9 +35,9 @@ inverse-requires c =
     let split = c.requires.1 in
     let fits = rows_fit c.requires.0 split in
     rw c.size_inverse_of-e.ensures (
-      plain_whole c.requires.0 split _ (table c.before.before.before),
+      plain_whole c.requires.0 split _ (table (goal.at.inverse-requires c).After-load_inverse_powers),
       split.places,
-      long c.before.before.before ∙ sym split.places,
+      long (goal.at.inverse-requires c).After-load_inverse_powers ∙ sym split.places,
       inverse_below c.args.p (listed_rules c.args.p c.requires.0) c.args.i,
       rw c.requires.2 fits,
     )
@@ -45,8 +46,8 @@ pub returns : goal.returns
 returns c =
     let v = root_inverse_of c.args.p c.args.i in
     let whole : Mod c.args.p.q (v ^ length c.load_inverse_powers.new.out) 1 =
-    rw (long c.before.before.before.before.before.before, c.requires.1.size, ← size_rows c.args.p c.requires.0 c.args.i)
+    rw (long (goal.at.returns c).After-load_inverse_powers, c.requires.1.size, ← size_rows c.args.p c.requires.0 c.args.i)
     (rows_root_inverse c.args.p c.requires.0 c.args.i).power in
     (rw c.size_inverse_of-e.ensures at
     (c.inverse.ensures v c.args.m))
-    (rw (long c.before.before.before.before.before.before) (table c.before.before.before.before.before.before)) whole c.requires.2 c.requires.1.within
+    (rw (long (goal.at.returns c).After-load_inverse_powers) (table (goal.at.returns c).After-load_inverse_powers)) whole c.requires.2 c.requires.1.within

@@ -5,23 +5,24 @@ use native.Mathlib.Nat.{le_of_eq}
 use lib.ListN.{length}
 use Rattle.ntt_plain.proofs.Steps.{columns_length, twisted_length, plain_of, RootPowers}
 use Rattle.ntt_plain.proofs.Lazily.{sent_settled}
+use Rattle.ntt_plain.proofs.forward_with_buffer.Goals.{After-fill_columns, After-twist}
 use Rattle.ntt_plain.proofs.forward_with_buffer.Goals as goal
 
 -- all places are filled
-columns_size : (c : goal.After-fill_columns) → length c.fill_columns.new.to ≡ length c.args.powers.now
+columns_size : (c : After-fill_columns) → length c.fill_columns.new.to ≡ length c.args.powers.now
 columns_size c = c.fill_columns.ensures.kept ∙ columns_length _ _ _ _ _ _ ∙ c.requires.5
 
-twist_size : (c : goal.After-twist) → length c.twist.new.x ≡ length c.args.powers.now
-twist_size c = c.twist.ensures.kept ∙ twisted_length _ _ _ _ ∙ columns_size c.before.before.before.before
+twist_size : (c : After-twist) → length c.twist.new.x ≡ length c.args.powers.now
+twist_size c = c.twist.ensures.kept ∙ twisted_length _ _ _ _ ∙ columns_size (goal.at.After-twist c).After-fill_columns
 
 pub twist-requires : goal.twist-requires
 twist-requires c =
-    (plain_of c.requires.0 (le_of_eq (columns_size c.before.before.before)) c.fill_columns.ensures.below, c.negated_inverse-k.ensures)
+    (plain_of c.requires.0 (le_of_eq (columns_size (goal.at.twist-requires c).After-fill_columns)) c.fill_columns.ensures.below, c.negated_inverse-k.ensures)
 
 pub fill_rows-requires : goal.fill_rows-requires
 fill_rows-requires c =
     let pre = c.requires in
-    let size = twist_size c.before.before.before in (
+    let size = twist_size (goal.at.fill_rows-requires c).After-twist in (
       plain_of pre.0 (le_of_eq size) c.twist.ensures.below,
       size ∙ pre.3,
       sym size,

@@ -5,24 +5,25 @@ use native.Mathlib.Nat.{le_of_eq, le_trans}
 use lib.ListN.{length}
 use Rattle.ntt_plain.proofs.Steps.{rows_length, twisted_length, plain_of, RootPowers}
 use Rattle.ntt_plain.proofs.Lazily.{recovered_settled}
+use Rattle.ntt_plain.proofs.inverse_with_buffer.Goals.{After-fill_rows, After-twist}
 use Rattle.ntt_plain.proofs.inverse_with_buffer.Goals as goal
 
 -- all places are filled
-rows_size : (c : goal.After-fill_rows) → length c.fill_rows.new.to ≡ length c.args.x.now
+rows_size : (c : After-fill_rows) → length c.fill_rows.new.to ≡ length c.args.x.now
 rows_size c = c.fill_rows.ensures.kept ∙ rows_length _ _ _ _ _
 
-twist_size : (c : goal.After-twist) → length c.twist.new.x ≡ length c.args.x.now
-twist_size c = c.twist.ensures.kept ∙ twisted_length _ _ _ _ ∙ rows_size c.before.before.before.before
+twist_size : (c : After-twist) → length c.twist.new.x ≡ length c.args.x.now
+twist_size c = c.twist.ensures.kept ∙ twisted_length _ _ _ _ ∙ rows_size (goal.at.After-twist c).After-fill_rows
 
 pub twist-requires : goal.twist-requires
 twist-requires c =
     let pre = c.requires in
-    (plain_of pre.0 (le_of_eq (rows_size c.before.before.before ∙ sym pre.2)) c.fill_rows.ensures.below, c.negated_inverse-k.ensures)
+    (plain_of pre.0 (le_of_eq (rows_size (goal.at.twist-requires c).After-fill_rows ∙ sym pre.2)) c.fill_rows.ensures.below, c.negated_inverse-k.ensures)
 
 pub fill_columns-requires : goal.fill_columns-requires
 fill_columns-requires c =
     let pre = c.requires in
-    let size = twist_size c.before.before.before in (
+    let size = twist_size (goal.at.fill_columns-requires c).After-twist in (
       plain_of pre.0 (le_of_eq (size ∙ sym pre.2)) c.twist.ensures.below,
       size ∙ pre.1,
       le_trans pre.4 (le_of_eq (sym pre.2)),

@@ -5,13 +5,14 @@ use Prim.Native.Nat.{◌-◌, ◌<◌}
 use native.Mathlib.Omega.{arith}
 use lib.ListN.{length}
 use Rattle.ntt_plain.proofs.Sums.{summing_none, summing_more, term_below}
+use Rattle.ntt_plain.proofs.strided_sum.Goals.{In-loop-j}
 use Rattle.ntt_plain.proofs.strided_sum.Goals as goal
 
 pub loop-j-init : goal.loop-j-init
 loop-j-init c = summing_none c.requires
 
 -- the place of a turn
-place_below : (c : goal.In-loop-j)
+place_below : (c : In-loop-j)
     → c.loop-j.place < length c.args.x.now
 place_below c =
     let turn = c.loop-j in
@@ -21,7 +22,7 @@ pub offset_bounds-x-place : goal.offset_bounds-x-place
 offset_bounds-x-place c = omega (arith, place_below c, c.requires.room)
 
 pub bounds-x-place : goal.bounds-x-place
-bounds-x-place c = place_below c.before
+bounds-x-place c = place_below (goal.at.bounds-x-place c).In-loop-j
 
 pub overflow_add-total : goal.overflow_add-total
 overflow_add-total c =

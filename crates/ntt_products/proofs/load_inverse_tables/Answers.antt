@@ -7,14 +7,15 @@ use lib.ListN.{length, length-take}
 use Rattle.sets.specs.Derived.{transform_size_of}
 use Rattle.sets.proofs.Rules.{listed_rules}
 use Rattle.ntt_products.proofs.Sizes.{size_rows, sizes, front_length, front_region, inverse_powers_length, inverse_ordered, inverse_powers_below}
+use Rattle.ntt_products.proofs.load_inverse_tables.Goals.{After-load_inverse_powers, After-transform_size-size}
 use Rattle.ntt_products.proofs.load_inverse_tables.Goals as goal
 
 -- the size of the set's transform
-size_is : (c : goal.After-transform_size-size) → c.transform_size-size.result ≡ transform_size_of c.args.p c.args.i
+size_is : (c : After-transform_size-size) → c.transform_size-size.result ≡ transform_size_of c.args.p c.args.i
 size_is c = c.transform_size-size.ensures
 
 -- so many powers are loaded
-long : (c : goal.After-load_inverse_powers) → length c.load_inverse_powers.new.out ≡ transform_size_of c.args.p c.args.i
+long : (c : After-load_inverse_powers) → length c.load_inverse_powers.new.out ≡ transform_size_of c.args.p c.args.i
 long c = ap length c.load_inverse_powers.ensures ∙ inverse_powers_length c.args.p c.args.i
 
 pub slice_bounds-load_inverse_powers-end : goal.slice_bounds-load_inverse_powers-end
@@ -22,7 +23,7 @@ slice_bounds-load_inverse_powers-end c = omega (arith, size_is c, c.requires.1)
 
 pub load_inverse_powers-requires : goal.load_inverse_powers-requires
 load_inverse_powers-requires c =
-    (c.requires.0, simp (length-take, sub-zero) (omega (arith, size_is c.before, c.requires.1)))
+    (c.requires.0, simp (length-take, sub-zero) (omega (arith, size_is (goal.at.load_inverse_powers-requires c).After-transform_size-size, c.requires.1)))
 
 pub rows_of-requires : goal.rows_of-requires
 rows_of-requires c =
@@ -35,9 +36,9 @@ fill_tables-requires c =
     rw c.rows_of.ensures (
       sizes p c.requires.0 i,
       rw (size_rows p c.requires.0 i)
-          (front_length c.load_inverse_powers.new.out c.args.out.now c.transform_size-size.result (long c.before.before.before.before ∙ sym (size_is c.before.before.before.before.before.before))
-          c.requires.1 (omega (arith, size_is c.before.before.before.before.before.before))),
-      inverse_powers_below p c.requires.0 i (front_region _ _ _ (long c.before.before.before.before) ∙ c.load_inverse_powers.ensures),
+          (front_length c.load_inverse_powers.new.out c.args.out.now c.transform_size-size.result (long (goal.at.fill_tables-requires c).After-load_inverse_powers ∙ sym (size_is (goal.at.fill_tables-requires c).After-transform_size-size))
+          c.requires.1 (omega (arith, size_is (goal.at.fill_tables-requires c).After-transform_size-size))),
+      inverse_powers_below p c.requires.0 i (front_region _ _ _ (long (goal.at.fill_tables-requires c).After-load_inverse_powers) ∙ c.load_inverse_powers.ensures),
     )
 
 pub returns : goal.returns
@@ -47,5 +48,5 @@ returns c =
     let made = rw c.rows_of.ensures at c.fill_tables.ensures in
     record {
       lent = made.0;
-      root = made.1 _ (inverse_ordered p c.requires.0 i (front_region _ _ _ (long c.before.before.before.before.before.before.before) ∙ c.load_inverse_powers.ensures));
+      root = made.1 _ (inverse_ordered p c.requires.0 i (front_region _ _ _ (long (goal.at.returns c).After-load_inverse_powers) ∙ c.load_inverse_powers.ensures));
     }

@@ -7,14 +7,15 @@ use Rattle.sets.proofs.Rules.{listed_rules}
 use Rattle.sets.proofs.Transforms.{size_most}
 use Rattle.ntt_products.specs.Stored.{row_count}
 use Rattle.ntt_products.proofs.Sizes.{sizes}
+use Rattle.ntt_products.proofs.table_length.Goals.{After-rows_of, After-transform_size}
 use Rattle.ntt_products.proofs.table_length.Goals as goal
 
 -- the size of the set's transform
-size_is : (c : goal.After-transform_size) → c.transform_size.result ≡ transform_size_of c.args.p c.args.i
+size_is : (c : After-transform_size) → c.transform_size.result ≡ transform_size_of c.args.p c.args.i
 size_is c = c.transform_size.ensures
 
 -- and its rows
-rows_are : (c : goal.After-rows_of) → c.rows_of.result ≡ row_count c.args.p c.args.i
+rows_are : (c : After-rows_of) → c.rows_of.result ≡ row_count c.args.p c.args.i
 rows_are c = c.rows_of.ensures
 
 pub overflow_add-result : goal.overflow_add-result
@@ -27,11 +28,11 @@ pub overflow_add-result-2 : goal.overflow_add-result-2
 overflow_add-result-2 c =
     omega (
       arith,
-      size_is c.before,
+      size_is (goal.at.overflow_add-result-2 c).After-transform_size,
       rows_are c,
       size_most c.args.p (listed_rules _ c.requires) c.args.i,
       (sizes c.args.p c.requires c.args.i).few_rows,
     )
 
 pub returns : goal.returns
-returns c = rw (size_is c.before, rows_are c)
+returns c = rw (size_is (goal.at.returns c).After-transform_size, rows_are c)

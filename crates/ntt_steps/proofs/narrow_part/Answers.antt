@@ -23,7 +23,7 @@ pub loop-i-preserved : goal.loop-i-preserved
 loop-i-preserved c =
     let room : 64 * c.args.part + 4 * 16 ≤ length c.args.to.now = omega (arith, c.requires.0.to_size, c.requires.1) in
     rw c.write_apart.ensures
-    (four_more c.loop-i.invariant _ _ _ _ c.loop-i-test.taken room c.twiddled_butterfly-z.ensures)
+    (four_more c.loop-i.invariant _ _ _ _ c.loop-i-test.true room c.twiddled_butterfly-z.ensures)
 
 pub returns : goal.returns
 returns c = part_all c.loop-i.invariant c.loop-i-test.false

@@ -23,7 +23,7 @@ pub loop-i-preserved : goal.loop-i-preserved
 loop-i-preserved c =
     let room : 0 + 4 * 64 ≤ length c.args.to.now = omega (arith, c.requires.to_size) in
     rw c.write_apart.ensures
-    (rw zero-add at (four_more c.loop-i.invariant _ _ _ _ c.loop-i-test.taken room c.plain_butterfly-z.ensures))
+    (rw zero-add at (four_more c.loop-i.invariant _ _ _ _ c.loop-i-test.true room c.plain_butterfly-z.ensures))
 
 pub returns : goal.returns
 returns c = quarters_all c.loop-i.invariant c.loop-i-test.false

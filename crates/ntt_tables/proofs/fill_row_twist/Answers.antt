@@ -4,11 +4,12 @@ use mathlib.Core.Path.{◌≡◌, refl, ◌∙◌}
 use Prim.Native.Nat.{◌*◌, ◌/◌, ◌%◌, ◌-◌, ◌<◌}
 use native.Mathlib.Omega.{arith}
 use Rattle.ntt_tables.proofs.Fill.{filled_none, filled_more, exponent_below, twist_place}
+use Rattle.ntt_tables.proofs.fill_row_twist.Goals.{In-loop-i}
 use Rattle.ntt_tables.proofs.fill_row_twist.Goals as goal
 
 -- the power of a turn stands before the places that are written
-place_below : (c : goal.In-loop-i)
-    → let start = c.args in c.rows * (c.loop-i.i / 16 * (c.loop-i.i % 16)) < c.start
+place_below : (c : In-loop-i)
+    → let start = c.args in start.rows * (c.loop-i.i / 16 * (c.loop-i.i % 16)) < start.start
 place_below c = rw c.requires.1 (twist_place c.args.rows c.loop-i-test.true c.requires.2)
 
 pub loop-i-init : goal.loop-i-init
@@ -25,17 +26,17 @@ offset_bounds-tables-rows c = omega (arith, place_below c, c.requires)
 
 pub bounds-tables-rows : goal.bounds-tables-rows
 bounds-tables-rows c =
-    omega (arith, place_below c.before, c.requires, c.loop-i.invariant.filled.size)
+    omega (arith, place_below (goal.at.bounds-tables-rows c).In-loop-i, c.requires, c.loop-i.invariant.filled.size)
 
 pub scaled-requires : goal.scaled-requires
 scaled-requires c =
-    let below = place_below c.before in
+    let below = place_below (goal.at.scaled-requires c).In-loop-i in
     (c.requires.0, rw (c.loop-i.invariant.filled _ below) (c.requires.5.each _ below))
 
 pub loop-i-preserved : goal.loop-i-preserved
 loop-i-preserved c =
     let turn = c.loop-i in
-    let below = place_below c.before.before in
+    let below = place_below (goal.at.loop-i-preserved c).In-loop-i in
     let taken : turn.i < 256 = c.loop-i-test.true in
     record {
       within = omega arith;

@@ -6,21 +6,22 @@ use native.Mathlib.Nat.{add_assoc}
 use native.Mathlib.Omega.{arith}
 use Rattle.ntt_tables.specs.Steps.{Scaling}
 use Rattle.ntt_tables.proofs.Made.{filled_below, made_ready, made_tables}
+use Rattle.ntt_tables.proofs.fill_tables.Goals.{After-scaled_scale-by}
 use Rattle.ntt_tables.proofs.fill_tables.Goals as goal
 
 -- the modulus, its negated inverse and the scaled form of 2^32
-scaling : (c : goal.After-scaled_scale-by) → Scaling c.args.q c.negated_inverse-k.result c.scaled_scale-by.result
+scaling : (c : After-scaled_scale-by) → Scaling c.args.q c.negated_inverse-k.result c.scaled_scale-by.result
 scaling c = record { modulus = c.negated_inverse-k.ensures; scale = c.scaled_scale-by.ensures }
 
 pub fill_row_twist-requires : goal.fill_row_twist-requires
 fill_row_twist-requires c =
     let pre = c.requires in
-    (scaling c.before, refl, pre.1, pre.2, omega (arith, pre.3), pre.4)
+    (scaling (goal.at.fill_row_twist-requires c).After-scaled_scale-by, refl, pre.1, pre.2, omega (arith, pre.3), pre.4)
 
 pub fill_strided-requires : goal.fill_strided-requires
 fill_strided-requires c =
     (
-      scaling c.before.before.before.before.before,
+      scaling (goal.at.fill_strided-requires c).After-scaled_scale-by,
       omega (arith, c.requires.1),
       omega arith,
       omega (arith, c.requires.3, c.fill_row_twist.ensures.size),
@@ -31,7 +32,7 @@ fill_strided-requires c =
 pub fill_strided-requires-2 : goal.fill_strided-requires-2
 fill_strided-requires-2 c =
     (
-      scaling c.before.before.before.before.before.before.before.before.before,
+      scaling (goal.at.fill_strided-requires-2 c).After-scaled_scale-by,
       omega arith,
       omega arith,
       omega (arith, c.requires.3, c.fill_row_twist.ensures.size, c.fill_strided.ensures.size),

@@ -5,10 +5,11 @@ use Prim.Native.Nat.{◌*◌, ◌-◌, ◌≤◌}
 use native.Mathlib.Nat.{mul-le-mul_left}
 use native.Mathlib.Omega.{arith}
 use Rattle.ntt_tables.proofs.Twist.{twisting_none, twisting_more, twisting_all}
+use Rattle.ntt_tables.proofs.twist_row.Goals.{In-loop-c}
 use Rattle.ntt_tables.proofs.twist_row.Goals as goal
 
 -- the place of a turn's power
-place_below : (c : goal.In-loop-c) → let start = c.args in start.r * c.loop-c.c ≤ start.r * 255
+place_below : (c : In-loop-c) → let start = c.args in start.r * c.loop-c.c ≤ start.r * 255
 place_below c =
     mul-le-mul_left {m = c.loop-c.c} {n = 255} c.args.r (omega (arith, c.loop-c-test.true))
 
@@ -22,7 +23,7 @@ pub offset_bounds-tables-r : goal.offset_bounds-tables-r
 offset_bounds-tables-r c = omega (arith, place_below c, c.requires)
 
 pub bounds-tables-r : goal.bounds-tables-r
-bounds-tables-r c = omega (arith, place_below c.before, c.requires, c.loop-c.invariant.size)
+bounds-tables-r c = omega (arith, place_below (goal.at.bounds-tables-r c).In-loop-c, c.requires, c.loop-c.invariant.size)
 
 pub loop-c-preserved : goal.loop-c-preserved
 loop-c-preserved c =

@@ -8,18 +8,18 @@ use lib.IntN.{ℤ, pos, nat_abs}
 use lib.ListN.{get_or}
 use native.Mathlib.Omega.{arith}
 use borrow.Author.Count.{below_none, below_more}
-use borrow.Author.Tests.{not-true, not-false}
 use Rattle.calls.proofs.Checks.{passing_is}
 use Rattle.numbers.specs.Calls.{is_error}
 use Rattle.numbers.proofs.Size.{entry_kept}
 use borrow.Author.Rules.{rules}
+use Rattle.numbers_key.proofs.first_error.Goals.{After-size_within}
 use Rattle.numbers_key.proofs.first_error.Goals as goal
 
 pub loop-i-init : goal.loop-i-init
 loop-i-init c = (search rules, below_none _)
 
 -- a turn tests the number at its place
-tested : (c : goal.After-size_within)
+tested : (c : After-size_within)
     → c.size_within.result ≡ leb (nat_abs (get_or c.args.es.now c.loop-i.i (pos 0)))
     c.args.eta
 tested c =
@@ -31,10 +31,10 @@ pub returns-then-not-size_within : goal.returns-then-not-size_within
 returns-then-not-size_within c =
     let at = c.loop-i in
     passing_is (is_error c.args.eta) 0 c.args.es.now (pos 0) at.i at.invariant.0 at.invariant.1
-    (λ h. sym (tested c.before) ∙ not-true _ c.if-not-size_within.true)
+    (λ h. sym (tested (goal.at.returns-then-not-size_within c).After-size_within) ∙ c.if-not-size_within.true)
 
 pub loop-i-preserved : goal.loop-i-preserved
-loop-i-preserved c = (search rules, below_more _ _ c.loop-i.invariant.1 (sym (tested c.before) ∙ not-false _ c.if-not-size_within.false))
+loop-i-preserved c = (search rules, below_more _ _ c.loop-i.invariant.1 (sym (tested (goal.at.loop-i-preserved c).After-size_within) ∙ c.if-not-size_within.false))
 
 pub returns : goal.returns
 returns c =

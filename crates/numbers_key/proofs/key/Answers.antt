@@ -5,56 +5,56 @@ use mathlib.Core.Bool.{true}
 use native.Mathlib.Nat.{mul-le-mul}
 use lib.ListN.{length}
 use native.Mathlib.Omega.{arith}
-use borrow.Author.Tests.{eqb-true, not-true, not-false}
+use borrow.Author.Tests.{eqb-true}
 use Rattle.calls.specs.Outcome.{outcome, accepted}
 use Rattle.calls.specs.Checks.{all_of}
 use Rattle.calls.proofs.Outcome.{refused_call, accepted_call}
 use Rattle.calls.proofs.Checks.{all_of_each}
 use Rattle.sets.specs.Rules.{Rules}
 use Rattle.sets.proofs.Counts.{errors_most}
-use Rattle.sets.proofs.Rules.{rules}
+use Rattle.sets.proofs.Rules.{rules as set_rules}
 use Rattle.middle.proofs.Chained.{accepted_two}
 use Rattle.middle.proofs.OpenCall.{opening_set, opening_lengths, operand}
 use Rattle.numbers.specs.Calls.{key_shape, key_answer, key_left}
 use Rattle.numbers.proofs.KeyLaws.{accepted_errors, key_numbers_lem}
-use borrow.Author.Rules.{rules}
+use Rattle.numbers_key.proofs.key.Goals.{After-numbers_checked-checked, Else-not-lengths_fit}
 use Rattle.numbers_key.proofs.key.Goals as goal
 
 pub returns-then-set-gt-LAST : goal.returns-then-set-gt-LAST
 unfolding key_answer key_left
 returns-then-set-gt-LAST c =
-    let whole = refused_call _ _ (opening_set _ _ 2 _ c.if-set-gt-LAST.taken) in record { answer = whole.0; left = whole.1 }
+    let whole = refused_call _ _ (opening_set _ _ 2 _ c.if-set-gt-LAST.true) in record { answer = whole.0; left = whole.1 }
 
 pub lengths_fit-requires : goal.lengths_fit-requires
-lengths_fit-requires c = rw c.parameters_of-p.ensures (rules c.args.set (omega (arith, c.if-set-gt-LAST.left)))
+lengths_fit-requires c = rw c.parameters_of-p.ensures (set_rules c.args.set (omega (arith, c.if-set-gt-LAST.false)))
 
 pub returns-then-not-lengths_fit : goal.returns-then-not-lengths_fit
 unfolding key_answer key_left
 returns-then-not-lengths_fit c =
-    let whole = refused_call _ _ (opening_lengths _ _ 2 _ c.if-set-gt-LAST.left
-    (rw c.parameters_of-p.ensures at (sym c.lengths_fit.ensures ∙ not-true _ c.if-not-lengths_fit.taken))) in record { answer = whole.0; left = whole.1 }
+    let whole = refused_call _ _ (opening_lengths _ _ 2 _ c.if-set-gt-LAST.false
+    (rw c.parameters_of-p.ensures at (sym c.lengths_fit.ensures ∙ c.if-not-lengths_fit.true))) in record { answer = whole.0; left = whole.1 }
 
 -- where the lengths fit
-lengths : (c : goal.Else-not-lengths_fit)
+lengths : (c : Else-not-lengths_fit)
     → let args = c.args in
     all_of (key_shape c.parameters_of-p.result (length args.a.now) (length args.s.now) (length args.e.now) (length args.b.now))
     ≡ true
-lengths c = sym c.lengths_fit.ensures ∙ not-false _ c.if-not-lengths_fit.left
+lengths c = sym c.lengths_fit.ensures ∙ c.if-not-lengths_fit.false
 
--- the set's numbers keep the rules
-kept : (c : goal.Else-not-lengths_fit) → Rules c.parameters_of-p.result
+-- the set's numbers keep the set_rules
+kept : (c : Else-not-lengths_fit) → Rules c.parameters_of-p.result
 kept c =
-    rw (← c.parameters_of-p.ensures) at (rules c.args.set (omega (arith, c.if-set-gt-LAST.left)))
+    rw (← c.parameters_of-p.ensures) at (set_rules c.args.set (omega (arith, c.if-set-gt-LAST.false)))
 
 -- the numbers decide
-decided : (c : goal.After-numbers_checked-checked)
+decided : (c : After-numbers_checked-checked)
     → let args = c.args in
     key_answer args.set args.a.now args.s.now args.e.now (length args.b.now) ≡ outcome c.numbers_checked-checked.result
 decided c =
     let args = c.args in
     let known = c.parameters_of-p in
     key_numbers_lem args.set known.result args.a.now args.s.now args.e.now (length args.b.now) known.ensures
-    c.if-set-gt-LAST.left (lengths c.before)
+    c.if-set-gt-LAST.false (lengths (goal.at.After-numbers_checked-checked c).Else-not-lengths_fit)
     ∙ sym c.numbers_checked-checked.ensures
 
 pub numbers_checked-checked-requires : goal.numbers_checked-checked-requires
@@ -69,8 +69,8 @@ pub fill-requires : goal.fill-requires
 fill-requires c =
     let args = c.args in
     let p = c.parameters_of-p.result in
-    let each = all_of_each _ (lengths c.before.before.before.before) in
-    let keeps = kept c.before.before.before.before in
+    let each = all_of_each _ (lengths (goal.at.fill-requires c).Else-not-lengths_fit) in
+    let keeps = kept (goal.at.fill-requires c).Else-not-lengths_fit in
     let passed = sym c.numbers_checked-checked.ensures ∙ ap outcome c.in-Done.is in
     let numbers = accepted_two p.q args.a.now args.s.now _ passed in
     let errors = accepted_errors p.eta _ args.e.now accepted numbers.2 in (
@@ -87,10 +87,10 @@ fill-requires c =
 pub returns-in-Refused : goal.returns-in-Refused
 unfolding key_left
 returns-in-Refused c =
-    let whole = refused_call _ _ (decided c.before.before.before ∙ ap outcome c.in-Refused.is) in record { answer = whole.0; left = whole.1 }
+    let whole = refused_call _ _ (decided (goal.at.returns-in-Refused c).After-numbers_checked-checked ∙ ap outcome c.in-Refused.is) in record { answer = whole.0; left = whole.1 }
 
 pub returns-in-Done : goal.returns-in-Done
 unfolding key_left
 returns-in-Done c =
-    let whole = accepted_call _ _ (decided c.before.before.before.before.before.before ∙ ap outcome c.in-Done.is)
+    let whole = accepted_call _ _ (decided (goal.at.returns-in-Done c).After-numbers_checked-checked ∙ ap outcome c.in-Done.is)
     (c.fill.ensures ∙ rw c.parameters_of-p.ensures) in record { answer = whole.0; left = whole.1 }

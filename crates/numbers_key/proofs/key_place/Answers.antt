@@ -14,23 +14,24 @@ use Rattle.calls.proofs.Region.{region_part}
 use Rattle.numbers.proofs.Size.{entry_kept}
 use Rattle.numbers.proofs.Family.{vector_index, family_room, family_operand}
 use Rattle.numbers.proofs.KeyLaws.{key_sum}
+use Rattle.numbers_key.proofs.key_place.Goals.{After-of_signed-error, After-product-from, Start}
 use Rattle.numbers_key.proofs.key_place.Goals as goal
 
 -- the place is one of b
-inside : (c : goal.Start) → c.args.l < error_count_of c.args.p
+inside : (c : Start) → c.args.l < error_count_of c.args.p
 inside c = omega (arith, c.requires.1.errors_length, c.requires.2)
 
 -- it is in vector i of t
-index : (c : goal.Start) → c.args.l / (c.args.p.d + c.args.p.k) < c.args.p.t
+index : (c : Start) → c.args.l / (c.args.p.d + c.args.p.k) < c.args.p.t
 unfolding error_count_of
 index c = vector_index (c.args.p.d + c.args.p.k) c.args.p.t c.args.l (omega (arith, c.requires.0.some_d)) (inside c)
 
 pub product-from-requires : goal.product-from-requires
-product-from-requires c = (omega (arith, c.requires.0.most_n), omega (arith, index c.before.before.before, c.requires.0.most_t))
+product-from-requires c = (omega (arith, c.requires.0.most_n), omega (arith, index (goal.at.product-from-requires c).Start, c.requires.0.most_t))
 
 -- vector i of a lies within a
-room : (c : goal.After-product-from) → c.product-from.result + c.args.p.n ≤ length c.args.a.now
-room c = rw c.product-from.ensures (family_room c.requires.1.public _ (index c.before.before.before.before))
+room : (c : After-product-from) → c.product-from.result + c.args.p.n ≤ length c.args.a.now
+room c = rw c.product-from.ensures (family_room c.requires.1.public _ (index (goal.at.After-product-from c).Start))
 
 pub overflow_add-end : goal.overflow_add-end
 overflow_add-end c = omega (arith, room c)
@@ -42,20 +43,20 @@ pub slice_bounds-product_place-end : goal.slice_bounds-product_place-end
 slice_bounds-product_place-end c = omega (arith, room c)
 
 -- the place in a vector
-column : (c : goal.Start) → c.args.l % (c.args.p.d + c.args.p.k) < c.args.p.d + c.args.p.k
+column : (c : Start) → c.args.l % (c.args.p.d + c.args.p.k) < c.args.p.d + c.args.p.k
 column c = mod-lt c.args.l (omega (arith, c.requires.0.some_d))
 
 pub overflow_add-n : goal.overflow_add-n
 overflow_add-n c =
-    omega (arith, column c.before.before.before.before.before, c.requires.0.most_n, c.requires.0.most_d, c.requires.0.most_k)
+    omega (arith, column (goal.at.overflow_add-n c).Start, c.requires.0.most_n, c.requires.0.most_d, c.requires.0.most_k)
 
 pub product_place-product-requires : goal.product_place-product-requires
 product_place-product-requires c =
     let kept = c.requires.0 in (
       rw (region_part c.args.a.now c.product-from.result c.args.p.n _ refl, c.product-from.ensures)
-          (family_operand c.requires.1.public _ (index c.before.before.before.before.before) kept.small (omega (arith, kept.most_n))),
+          (family_operand c.requires.1.public _ (index (goal.at.product_place-product-requires c).Start) kept.small (omega (arith, kept.most_n))),
       c.requires.1.secret,
-      omega (arith, column c.before.before.before.before.before, kept.most_n, kept.most_d, kept.most_k),
+      omega (arith, column (goal.at.product_place-product-requires c).Start, kept.most_n, kept.most_d, kept.most_k),
       omega (arith, kept.prime.above),
     )
 
@@ -66,7 +67,7 @@ of_signed-error-requires c =
     (omega (arith, kept.prime.above), kept.small, omega (arith, kept.most_eta, c.requires.1.errors_small c.args.l c.requires.2))
 
 -- the error's residue
-error : (c : goal.After-of_signed-error)
+error : (c : After-of_signed-error)
     → let args = c.args in
     c.of_signed-error.result ≡ residue args.p.q (get_or args.e.now args.l (pos 0))
 error c =
@@ -89,4 +90,4 @@ returns c =
     let place = c.product_place-product in
     c.add.ensures
     ∙ key_sum args.p args.a.now args.s.now args.e.now c.requires.1.public.size args.l from.result _ place.result
-    c.of_signed-error.result (inside c.before.before.before.before.before.before.before.before.before) (omega (arith, c.requires.0.some_d)) from.ensures refl place.ensures (error c.before)
+    c.of_signed-error.result (inside (goal.at.returns c).Start) (omega (arith, c.requires.0.some_d)) from.ensures refl place.ensures (error (goal.at.returns c).After-of_signed-error)

@@ -3,10 +3,9 @@
 use mathlib.Core.Path.{sym, ◌∙◌}
 use Prim.Native.Nat.{◌-◌}
 use native.Mathlib.Omega.{arith}
-use Rattle.sets.proofs.Rules.{rules}
+use Rattle.sets.proofs.Rules.{rules as set_rules}
 use Rattle.calls.proofs.Filled.{filled_none, filled_more, filled_whole}
 use Rattle.numbers.proofs.ReadingLaws.{reading_length, reading_at, opened_below}
-use borrow.Author.Rules.{rules}
 use Rattle.numbers_reading.proofs.fill.Goals as goal
 
 pub loop-j-init : goal.loop-j-init
@@ -14,11 +13,11 @@ loop-j-init c = filled_none (reading_length _ _ _ _ _) (omega arith)
 
 pub opened_place-requires : goal.opened_place-requires
 opened_place-requires c =
-    (rw c.requires.1 (rules c.args.set c.requires.0), c.requires.2, omega arith)
+    (rw c.requires.1 (set_rules c.args.set c.requires.0), c.requires.2, omega arith)
 
 pub rounded_bit-value-requires : goal.rounded_bit-value-requires
 rounded_bit-value-requires c =
-    let kept = rules c.args.set c.requires.0 in (
+    let kept = set_rules c.args.set c.requires.0 in (
       c.requires.0,
       c.requires.1,
       rw c.opened_place.ensures

@@ -33,3 +33,15 @@ loop-j-preserved c =
 pub returns : goal.returns
 returns c =
     filled_whole c.loop-j.invariant c.requires.3 (omega (arith, c.requires.3, c.loop-j.invariant.kept_length))
+
+pub offset_bounds-c1-j : goal.offset_bounds-c1-j
+offset_bounds-c1-j c = omega arith
+
+pub bounds-c1-j : goal.bounds-c1-j
+bounds-c1-j c = omega arith
+
+pub overflow_add-j : goal.overflow_add-j
+overflow_add-j c = omega arith
+
+pub loop-j-smaller : goal.loop-j-smaller
+loop-j-smaller c = omega (arith, c.loop-j.invariant.kept_length)

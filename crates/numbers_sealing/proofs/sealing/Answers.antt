@@ -5,13 +5,13 @@ use mathlib.Core.Bool.{true}
 use native.Mathlib.Nat.{mul-le-mul}
 use native.Mathlib.Omega.{arith}
 use lib.ListN.{length}
-use borrow.Author.Tests.{eqb-true, not-true, not-false}
+use borrow.Author.Tests.{eqb-true}
 use Rattle.calls.specs.Outcome.{outcome, accepted}
 use Rattle.calls.specs.Checks.{all_of}
 use Rattle.calls.proofs.Outcome.{leaves_accepted, leaves_refused}
 use Rattle.calls.proofs.Checks.{all_of_each}
 use Rattle.sets.specs.Rules.{Rules}
-use Rattle.sets.proofs.Rules.{rules}
+use Rattle.sets.proofs.Rules.{rules as set_rules}
 use Rattle.middle.proofs.Chained.{accepted_one, accepted_two}
 use Rattle.middle.proofs.OpenCall.{opening_set, opening_lengths}
 use Rattle.numbers.specs.Calls.{sealing_shape, sealing_answer, first_part_left, second_part_left}
@@ -19,38 +19,38 @@ use Rattle.numbers.proofs.MultiplierLaws.{accepted_multipliers}
 use Rattle.sets.specs.Derived.{error_count_of}
 use Rattle.sets.proofs.Counts.{errors_most}
 use Rattle.numbers.proofs.SealingLaws.{sealing_numbers}
-use borrow.Author.Rules.{rules}
+use Rattle.numbers_sealing.proofs.sealing.Goals.{After-numbers_checked-checked, Else-not-lengths_fit}
 use Rattle.numbers_sealing.proofs.sealing.Goals as goal
 
 pub returns-then-set-gt-LAST : goal.returns-then-set-gt-LAST
 unfolding sealing_answer first_part_left second_part_left
 returns-then-set-gt-LAST c =
-    let no = opening_set _ _ 2 _ c.if-set-gt-LAST.taken in let whole = (sym no, (sym (leaves_refused _ _ no), sym (leaves_refused _ _ no))) in record { answer = whole.0; first = whole.1; second = whole.2 }
+    let no = opening_set _ _ 2 _ c.if-set-gt-LAST.true in let whole = (sym no, (sym (leaves_refused _ _ no), sym (leaves_refused _ _ no))) in record { answer = whole.0; first = whole.1; second = whole.2 }
 
 pub lengths_fit-requires : goal.lengths_fit-requires
-lengths_fit-requires c = rw c.parameters_of-p.ensures (rules c.args.set (omega (arith, c.if-set-gt-LAST.left)))
+lengths_fit-requires c = rw c.parameters_of-p.ensures (set_rules c.args.set (omega (arith, c.if-set-gt-LAST.false)))
 
 pub returns-then-not-lengths_fit : goal.returns-then-not-lengths_fit
 unfolding sealing_answer first_part_left second_part_left
 returns-then-not-lengths_fit c =
-    let other = rw c.parameters_of-p.ensures at (sym c.lengths_fit.ensures ∙ not-true _ c.if-not-lengths_fit.taken) in
-    let no = opening_lengths _ _ 2 _ c.if-set-gt-LAST.left other in let whole = (sym no, (sym (leaves_refused _ _ no), sym (leaves_refused _ _ no))) in record { answer = whole.0; first = whole.1; second = whole.2 }
+    let other = rw c.parameters_of-p.ensures at (sym c.lengths_fit.ensures ∙ c.if-not-lengths_fit.true) in
+    let no = opening_lengths _ _ 2 _ c.if-set-gt-LAST.false other in let whole = (sym no, (sym (leaves_refused _ _ no), sym (leaves_refused _ _ no))) in record { answer = whole.0; first = whole.1; second = whole.2 }
 
 -- where the lengths fit
-lengths : (c : goal.Else-not-lengths_fit)
+lengths : (c : Else-not-lengths_fit)
     → let args = c.args in
     let p = c.parameters_of-p.result in
     all_of (sealing_shape p (length args.a.now) (length args.b.now) (length args.r.now) (length args.message.now)
     (length args.c1.now) (length args.c2.now)) ≡ true
-lengths c = sym c.lengths_fit.ensures ∙ not-false _ c.if-not-lengths_fit.left
+lengths c = sym c.lengths_fit.ensures ∙ c.if-not-lengths_fit.false
 
--- the set's numbers keep the rules
-kept : (c : goal.Else-not-lengths_fit) → Rules c.parameters_of-p.result
+-- the set's numbers keep the set_rules
+kept : (c : Else-not-lengths_fit) → Rules c.parameters_of-p.result
 kept c =
-    rw (← c.parameters_of-p.ensures) at (rules c.args.set (omega (arith, c.if-set-gt-LAST.left)))
+    rw (← c.parameters_of-p.ensures) at (set_rules c.args.set (omega (arith, c.if-set-gt-LAST.false)))
 
 -- the numbers decide
-decided : (c : goal.After-numbers_checked-checked)
+decided : (c : After-numbers_checked-checked)
     → let args = c.args in
     sealing_answer args.set args.a.now args.b.now args.r.now args.message.now (length args.c1.now) (length args.c2.now)
     ≡ outcome c.numbers_checked-checked.result
@@ -58,7 +58,7 @@ decided c =
     let args = c.args in
     let known = c.parameters_of-p in
     sealing_numbers args.set known.result args.a.now args.b.now args.r.now args.message.now (length args.c1.now)
-    (length args.c2.now) known.ensures c.if-set-gt-LAST.left (lengths c.before)
+    (length args.c2.now) known.ensures c.if-set-gt-LAST.false (lengths (goal.at.After-numbers_checked-checked c).Else-not-lengths_fit)
     ∙ sym c.numbers_checked-checked.ensures
 
 pub numbers_checked-checked-requires : goal.numbers_checked-checked-requires
@@ -74,8 +74,8 @@ unfolding error_count_of
 fill_both-requires c =
     let args = c.args in
     let p = c.parameters_of-p.result in
-    let each = all_of_each _ (lengths c.before.before.before.before.before) in
-    let keeps = kept c.before.before.before.before.before in
+    let each = all_of_each _ (lengths (goal.at.fill_both-requires c).Else-not-lengths_fit) in
+    let keeps = kept (goal.at.fill_both-requires c).Else-not-lengths_fit in
     let passed = sym c.numbers_checked-checked.ensures ∙ ap outcome c.in-Done.is in
     let numbers = accepted_two p.q args.a.now args.b.now _ passed in
     let multipliers = accepted_multipliers p keeps _ args.r.now _ numbers.2 in (
@@ -95,11 +95,11 @@ fill_both-requires c =
 pub returns-in-Refused : goal.returns-in-Refused
 unfolding first_part_left second_part_left
 returns-in-Refused c =
-    let no = decided c.before.before.before ∙ ap outcome c.in-Refused.is in let whole = (sym no, (sym (leaves_refused _ _ no), sym (leaves_refused _ _ no))) in record { answer = whole.0; first = whole.1; second = whole.2 }
+    let no = decided (goal.at.returns-in-Refused c).After-numbers_checked-checked ∙ ap outcome c.in-Refused.is in let whole = (sym no, (sym (leaves_refused _ _ no), sym (leaves_refused _ _ no))) in record { answer = whole.0; first = whole.1; second = whole.2 }
 
 pub returns-in-Done : goal.returns-in-Done
 unfolding first_part_left second_part_left
 returns-in-Done c =
-    let yes = decided c.before.before.before.before.before.before.before.before.before ∙ ap outcome c.in-Done.is in
+    let yes = decided (goal.at.returns-in-Done c).After-numbers_checked-checked ∙ ap outcome c.in-Done.is in
     let same = c.parameters_of-p.ensures in
     let written = c.fill_both.ensures in let whole = (sym yes, (written.0 ∙ rw same (sym (leaves_accepted _ _ yes)), written.1 ∙ rw same (sym (leaves_accepted _ _ yes)))) in record { answer = whole.0; first = whole.1; second = whole.2 }

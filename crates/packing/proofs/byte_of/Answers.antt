@@ -4,6 +4,7 @@ use Prim.Native.Nat.{ℕ, ◌+◌, ◌*◌, ◌/◌, ◌^◌, ◌≤◌, ◌<◌
 use native.Mathlib.Nat.{mul_comm, mod-eq_of_lt, lt_of_lt_of_le, lt_of_le_of_lt}
 use native.Mathlib.Omega.{arith}
 use lib.Pow.{shl_lt, shr_le, pow_mono}
+use Rattle.packing.proofs.byte_of.Goals.{After-number_at-2}
 use Rattle.packing.proofs.byte_of.Goals as goal
 
 -- a high part, moved up
@@ -12,7 +13,7 @@ moved x cmp kept h k =
     lt_of_lt_of_le (shl_lt 32 kept (lt_of_le_of_lt (shr_le x cmp) h)) (pow_mono {i = 32 + kept} {j = 56} (omega arith))
 
 -- the second number, moved up
-second : (c : goal.After-number_at-2) → c.number_at-2.result / 2 ^ c.args.cmp * 2 ^ c.args.kept < 2 ^ 56
+second : (c : After-number_at-2) → c.number_at-2.result / 2 ^ c.args.cmp * 2 ^ c.args.kept < 2 ^ 56
 second c = moved c.number_at-2.result c.args.cmp c.args.kept c.number_at-2.ensures.1
     (omega arith)
 

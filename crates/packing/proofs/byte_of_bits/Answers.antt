@@ -17,7 +17,7 @@ overflow_add-byte c = omega (arith, gathered_below c.loop-k.invariant)
 pub loop-k-preserved : goal.loop-k-preserved
 loop-k-preserved c =
     let a = c.args in
-    let bit = c.requires.1 (a.from + (c.loop-k.k - 1)) in
+    let bit = c.requires.digit (a.from + (c.loop-k.k - 1)) in
     gathered_more c.loop-k.invariant c.loop-k-test.true c.number_at.ensures.0 (omega (arith, c.number_at.ensures.0, bit))
 
 pub overflow_cast-result : goal.overflow_cast-result

@@ -32,7 +32,7 @@ loop-j-preserved c =
     let a = c.args in
     let now = c.loop-j in
     let p = now.invariant.0 in
-    let more : now.j < length c.pack_words-j.last.1.1.1.0 = omega arith in (
+    let more : now.j < length c.pack_words-j.new.out = omega arith in (
       ⊎_elim (λ w. position_next 1 p (omega arith) (omega arith) (omega arith)) (λ w. position_next 0 p (omega arith) (omega arith) (omega arith))
           c.if-bit-kept.branch,
       filled_more 0 now.invariant.1 more (omega arith)

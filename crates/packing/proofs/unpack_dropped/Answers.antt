@@ -38,7 +38,7 @@ pub loop-i-preserved : goal.loop-i-preserved
 loop-i-preserved c =
     let a = c.args in
     let now = c.loop-i in
-    let more : now.i < length c.unpack_groups-i.last.1.1.1.0 = omega arith in
+    let more : now.i < length c.unpack_groups-i.new.out = omega arith in
     let byte = c.shared_slice_known-1.given in (
       position_next ((now.bit + (a.width - a.cmp)) / 8) now.invariant.0 refl (omega arith) (omega arith),
       filled_more 0 now.invariant.1 more (omega arith)

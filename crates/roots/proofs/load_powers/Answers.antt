@@ -59,7 +59,7 @@ load_set11-requires c = asked c.requires.0 11 _ c.in-11.is c.requires.1
 
 pub load_set12-requires : goal.load_set12-requires
 load_set12-requires c =
-    asked c.requires.0 12 _ (last_set_lem _ (roots_set _ c.requires.0) c.in_default.rest) c.requires.1
+    asked c.requires.0 12 _ (last_set_lem _ (roots_set _ c.requires.0) c.in_default.in_default-own.rest) c.requires.1
 
 pub returns-in-0 : goal.returns-in-0
 returns-in-0 c =
@@ -112,4 +112,4 @@ returns-in-11 c =
 pub returns-in_default : goal.returns-in_default
 returns-in_default c =
     let known = c.requires.0 in
-    filled known 12 _ (last_set_lem _ (roots_set _ known) c.in_default.rest) c.load_set12.ensures
+    filled known 12 _ (last_set_lem _ (roots_set _ known) c.in_default.in_default-own.rest) c.load_set12.ensures

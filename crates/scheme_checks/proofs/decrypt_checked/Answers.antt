@@ -9,14 +9,15 @@ use Rattle.sets.specs.Derived.{is_of}
 use Rattle.sets.proofs.Rules.{rules_of}
 use Rattle.scheme.specs.Answers.{checks, decrypt_checks}
 use Rattle.scheme.proofs.Answers.{Own, set_range, set_refuses, lengths_decide}
+use Rattle.scheme_checks.proofs.decrypt_checked.Goals.{In-Done}
 use Rattle.scheme_checks.proofs.decrypt_checked.Goals as goal
 
 -- the set is one of the scheme's
-own : (c : goal.In-Done) → Own (is_of c.args.number) c.args.set
+own : (c : In-Done) → Own (is_of c.args.number) c.args.set
 own c = set_range _ _ (sym c.set_checked-checked.ensures ∙ ap outcome c.in-Done.is)
 
 -- so that its record keeps the rules
-kept : (c : goal.In-Done) → Rules c.args.p
+kept : (c : In-Done) → Rules c.args.p
 kept c = rules_of c.args.set (omega (arith, (own c).1)) _ c.requires
 
 pub returns-in_default : goal.returns-in_default
@@ -27,10 +28,10 @@ pub secret_key_bytes-requires : goal.secret_key_bytes-requires
 secret_key_bytes-requires c = kept c
 
 pub ciphertext_bytes-requires : goal.ciphertext_bytes-requires
-ciphertext_bytes-requires c = kept c.before
+ciphertext_bytes-requires c = kept (goal.at.ciphertext_bytes-requires c).In-Done
 
 pub work_length-requires : goal.work_length-requires
-work_length-requires c = kept c.before.before
+work_length-requires c = kept (goal.at.work_length-requires c).In-Done
 
 pub returns : goal.returns
 unfolding decrypt_checks
@@ -42,4 +43,4 @@ returns c =
       c.secret_key_bytes.ensures,
       c.requires,
     )
-    (sym (lengths_decide _ _ _ _ _ (own c.before.before.before.before)))
+    (sym (lengths_decide _ _ _ _ _ (own (goal.at.returns c).In-Done)))

@@ -5,13 +5,14 @@ use Rattle.calls.specs.Outcome.{outcome, accepted}
 use Rattle.sets.specs.Derived.{is_exchange}
 use Rattle.share_a_key.specs.Answers.{share_aKey_checked}
 use Rattle.share_a_key.proofs.ShareAKey.{all_fit, checks_refuse, key_refuses, all_accept}
+use Rattle.share_a_key.proofs.share_a_key.Goals.{In-Done}
 use Rattle.share_a_key.proofs.share_a_key.Goals as goal
 
 pub round_trip_checked-checked-requires : goal.round_trip_checked-checked-requires
 round_trip_checked-checked-requires c = c.parameters_of.ensures
 
 -- the checks of all three calls passed
-passed : (c : goal.In-Done) → let args = c.args in
+passed : (c : In-Done) → let args = c.args in
     all_fit args.set args.seed.now args.message.now args.public.now args.secret.now args.sealed.now
     args.sent.now args.received.now args.work.now ≡ accepted
 unfolding is_exchange share_aKey_checked
@@ -29,7 +30,7 @@ pub returns-in_default-made : goal.returns-in_default-made
 returns-in_default-made c =
     let args = c.args in let whole = key_refuses args.set args.seed.now args.message.now args.public.now args.secret.now args.sealed.now
     args.sent.now args.received.now args.work.now
-    (passed c.before.before.before.before.before.before.before.before.before.before.before.before) (ap outcome c.in_default-made.is) c.key-made.ensures in record { answer = whole.0; given = whole.1; kept = whole.2; closed = whole.3; agreed = whole.4; opened = whole.5; cleared = whole.6; claim = whole.7 }
+    (passed (goal.at.returns-in_default-made c).In-Done) (ap outcome c.in_default-made.is) c.key-made.ensures in record { answer = whole.0; given = whole.1; kept = whole.2; closed = whole.3; agreed = whole.4; opened = whole.5; cleared = whole.6; claim = whole.7 }
 
 -- all three calls are accepted
 pub returns : goal.returns
@@ -37,5 +38,5 @@ returns c =
     let args = c.args in
     let bytes = c.shared_slice_known-2-1.given in let whole = all_accept args.set args.seed.now args.message.now args.public.now args.secret.now args.sealed.now
     args.sent.now args.received.now args.work.now
-    (passed c.before.before.before.before.before.before.before.before.before.before.before.before.before.before.before.before.before.before.before.before.before.before.before.before.before.before.before.before.before) _ _ _ (sym (ap outcome c.in-Done-made.is) ∙ c.key-made.ensures.0, c.key-made.ensures.1) (λ k. (bytes k).fits)
-    _ _ _ c.encapsulate.ensures.1 c.decapsulate.ensures in record { answer = whole.0; given = whole.1; kept = whole.2; closed = whole.3; agreed = whole.4; opened = whole.5; cleared = whole.6; claim = whole.7 }
+    (passed (goal.at.returns c).In-Done) _ _ _ (sym (ap outcome c.in-Done-made.is) ∙ c.key-made.ensures.answer, c.key-made.ensures.given) (λ k. (bytes k).fits)
+    _ _ _ c.encapsulate.ensures.given c.decapsulate.ensures in record { answer = whole.0; given = whole.1; kept = whole.2; closed = whole.3; agreed = whole.4; opened = whole.5; cleared = whole.6; claim = whole.7 }

@@ -17,38 +17,39 @@ use Rattle.sets.proofs.Rules.{listed_rules}
 use Rattle.calls.proofs.Parts.{front_length, back_length}
 use Rattle.sheet_noise.proofs.Held.{work_room, secret_state_lem, never_refused, errors_written}
 use borrow.Author.Rules.{rules}
+use Rattle.sheet_noise.proofs.draw_errors.Goals.{After-error_count-count, After-residues_from, In-Counter-2}
 use Rattle.sheet_noise.proofs.draw_errors.Goals as goal
 
 -- the set's numbers and their rules
-abbrev p : goal.After-error_count-count → Parameters
+abbrev p : After-error_count-count → Parameters
 p c = c.args.p
 
-kept : (c : goal.After-error_count-count) → Rules (p c)
+kept : (c : After-error_count-count) → Rules (p c)
 kept c = listed_rules (p c) c.requires.1
 
 -- the work slice before, and after the draw of the secret
-abbrev work : goal.After-error_count-count → List ℕ
+abbrev work : After-error_count-count → List ℕ
 work c = c.args.work.now
 
-abbrev work_after : goal.After-residues_from → List ℕ
+abbrev work_after : After-residues_from → List ℕ
 work_after c =
-    take 0 (work c.before.before)
-    ++ (c.residues_from.new.out ++ drop ((p c.before.before).d3 - 0) (drop 0 (work c.before.before)))
+    take 0 (work (goal.at.After-residues_from c).After-error_count-count)
+    ++ (c.residues_from.new.out ++ drop ((p (goal.at.After-residues_from c).After-error_count-count).d3 - 0) (drop 0 (work (goal.at.After-residues_from c).After-error_count-count)))
 
 pub error_count-count-requires : goal.error_count-count-requires
 error_count-count-requires c = listed_rules c.args.p c.requires.1
 
 -- the secret and the errors fit
-secret_fits : (c : goal.After-error_count-count) → (p c).d3 ≤ length (work c)
+secret_fits : (c : After-error_count-count) → (p c).d3 ≤ length (work c)
 secret_fits c =
     omega (arith, (work_room c.args.p c.requires.0 c.requires.1).secret_in, c.requires.4)
 
-errors_fit : (c : goal.After-error_count-count) → c.error_count-count.result ≤ length (work c)
+errors_fit : (c : After-error_count-count) → c.error_count-count.result ≤ length (work c)
 errors_fit c =
     omega (arith, (work_room c.args.p c.requires.0 c.requires.1).all_in, c.error_count-count.ensures.0, c.requires.4)
 
 -- the part of the secret
-secret_part : (c : goal.After-error_count-count)
+secret_part : (c : After-error_count-count)
     → length (take ((p c).d3 - 0) (drop 0 (work c))) ≡ (p c).d3
 secret_part c = front_length (work c) (p c).d3 (secret_fits c)
 
@@ -57,41 +58,41 @@ slice_bounds-residues_from-end c = omega (arith, secret_fits c)
 
 pub residues_from-requires : goal.residues_from-requires
 residues_from-requires c =
-    let all = kept c.before in record { rules = (all, omega (arith, c.requires.2), c.requires.0.some_bytpcs, c.requires.0.most_bytpcs); out_nonzero = (omega (arith, secret_part c.before, all.some_n, all.some_d, all.some_k, all.holds3), omega (arith, secret_part c.before, all.most_d3)) }
+    let all = kept (goal.at.residues_from-requires c).After-error_count-count in record { rules = (all, omega (arith, c.requires.2), c.requires.0.some_bytpcs, c.requires.0.most_bytpcs); out_nonzero = (omega (arith, secret_part (goal.at.residues_from-requires c).After-error_count-count, all.some_n, all.some_d, all.some_k, all.holds3), omega (arith, secret_part (goal.at.residues_from-requires c).After-error_count-count, all.most_d3)) }
 
 pub returns-in_default : goal.returns-in_default
 returns-in_default c =
     let secret = c.args.secret.now in
-    let answer = sym (ap (onward secret) c.in_default.is) ∙ c.residues_from.ensures.0 in
+    let answer = sym (ap (onward secret) c.in_default.is) ∙ c.residues_from.ensures.answer in
     absurd
-    (never_refused c.args.p secret _ (secret_part c.before.before.before.before.before.before)
+    (never_refused c.args.p secret _ (secret_part (goal.at.returns-in_default c).After-error_count-count)
     c.requires.0.some_bytpcs _ answer c.requires.3)
 
 -- the state that the draw of the secret leaves
-state_is : (c : goal.In-Counter-2) → state_at c.args.secret.now c.in-Counter.counter ≡ secret_state c.args.p c.args.secret.now
+state_is : (c : In-Counter-2) → state_at c.args.secret.now c.in-Counter.counter ≡ secret_state c.args.p c.args.secret.now
 state_is c =
     let secret = c.args.secret.now in
-    secret_state_lem c.args.p secret _ (secret_part c.before.before.before.before.before.before) _
-    (sym (ap (onward secret) c.in-Counter.is) ∙ c.residues_from.ensures.0)
+    secret_state_lem c.args.p secret _ (secret_part (goal.at.In-Counter-2 c).After-error_count-count) _
+    (sym (ap (onward secret) c.in-Counter.is) ∙ c.residues_from.ensures.answer)
 
 -- the work slice keeps its length
-kept_length : (c : goal.After-residues_from) → length (work_after c) ≡ length (work c.before.before)
+kept_length : (c : After-residues_from) → length (work_after c) ≡ length (work (goal.at.After-residues_from c).After-error_count-count)
 kept_length c =
-    back_length (work c.before.before) c.residues_from.new.out (p c.before.before).d3
-    (c.residues_from.auto.out ∙ secret_part c.before.before) (secret_fits c.before.before)
+    back_length (work (goal.at.After-residues_from c).After-error_count-count) c.residues_from.new.out (p (goal.at.After-residues_from c).After-error_count-count).d3
+    (c.residues_from.auto.out ∙ secret_part (goal.at.After-residues_from c).After-error_count-count) (secret_fits (goal.at.After-residues_from c).After-error_count-count)
 
 pub slice_bounds-errors_from-end : goal.slice_bounds-errors_from-end
-slice_bounds-errors_from-end c = omega (arith, kept_length c.before.before.before.before.before, errors_fit c.before.before.before.before.before.before.before)
+slice_bounds-errors_from-end c = omega (arith, kept_length (goal.at.slice_bounds-errors_from-end c).After-residues_from, errors_fit (goal.at.slice_bounds-errors_from-end c).After-error_count-count)
 
 -- the part of the errors
-errors_size : (c : goal.After-residues_from)
+errors_size : (c : After-residues_from)
     → length (take (c.error_count-count.result - 0) (drop 0 (work_after c))) ≡ c.error_count-count.result
-errors_size c = front_length (work_after c) c.error_count-count.result (omega (arith, kept_length c, errors_fit c.before.before))
+errors_size c = front_length (work_after c) c.error_count-count.result (omega (arith, kept_length c, errors_fit (goal.at.After-residues_from c).After-error_count-count))
 
 pub errors_from-requires : goal.errors_from-requires
 errors_from-requires c =
-    let small = secret_state_small (p c.before.before.before.before.before.before.before.before) (kept c.before.before.before.before.before.before.before.before) c.requires.0 c.args.secret.now in
-    let counter = ap (λ (s : State). s.counter) (state_is c.before.before) in record { rules = (kept c.before.before.before.before.before.before.before.before, c.requires.0, omega (arith, c.requires.2), errors_size c.before.before.before.before.before.before ∙ c.error_count-count.ensures.0); p_bound = omega (arith, small, counter, c.requires.0.most_error_bytes) }
+    let small = secret_state_small (p (goal.at.errors_from-requires c).After-error_count-count) (kept (goal.at.errors_from-requires c).After-error_count-count) c.requires.0 c.args.secret.now in
+    let counter = ap (λ (s : State). s.counter) (state_is (goal.at.errors_from-requires c).In-Counter-2) in record { rules = (kept (goal.at.errors_from-requires c).After-error_count-count, c.requires.0, omega (arith, c.requires.2), errors_size (goal.at.errors_from-requires c).After-residues_from ∙ c.error_count-count.ensures.0); p_bound = omega (arith, small, counter, c.requires.0.most_error_bytes) }
 
 pub returns : goal.returns
 unfolding errors
@@ -99,6 +100,6 @@ returns c =
     let o = c.args.p in
     let made = c.errors_from in
     let secret = c.args.secret.now in
-    errors_written o secret (work_after c.before.before.before.before.before.before.before.before.before) made.new.out c.error_count-count.result
-    (made.auto.out ∙ errors_size c.before.before.before.before.before.before.before.before.before ∙ c.error_count-count.ensures.0)
-    (made.ensures ∙ ap (λ (s : State). map (residue o.q) (errors_drawn o s)) (state_is c.before.before.before.before.before))
+    errors_written o secret (work_after (goal.at.returns c).After-residues_from) made.new.out c.error_count-count.result
+    (made.auto.out ∙ errors_size (goal.at.returns c).After-residues_from ∙ c.error_count-count.ensures.0)
+    (made.ensures ∙ ap (λ (s : State). map (residue o.q) (errors_drawn o s)) (state_is (goal.at.returns c).In-Counter-2))

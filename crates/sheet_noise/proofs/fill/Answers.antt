@@ -38,11 +38,11 @@ noise_at-requires c =
 pub loop-j-preserved : goal.loop-j-preserved
 loop-j-preserved c =
     let fits : SFits w64 c.noise_at.result = search rules in
-    turned_more (λ i. centred_noise c.args.p c.args.multipliers.now c.args.errors.now (at c.args.now i) i) 0
+    turned_more (λ i. centred_noise c.args.p c.args.multipliers.now c.args.errors.now (at c.args.before.now i) i) 0
     c.loop-j.invariant (omega arith) (to_z-of_z fits ∙ c.noise_at.ensures ∙ rw zero-add)
 
 pub returns : goal.returns
 returns c =
     filled_whole c.loop-j.invariant (omega arith) (omega arith)
-    ∙ ap (λ (n : ℕ). in_turn (λ i. centred_noise c.args.p c.args.multipliers.now c.args.errors.now (at c.args.now i) i)
+    ∙ ap (λ (n : ℕ). in_turn (λ i. centred_noise c.args.p c.args.multipliers.now c.args.errors.now (at c.args.before.now i) i)
     0 n) c.requires.8

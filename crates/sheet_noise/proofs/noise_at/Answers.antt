@@ -23,7 +23,7 @@ plus-requires c =
     let other : SFits w64 c.dropped_noise-dropped.result = search rules in (
       held_small one c.product_noise-product.ensures
           (product_most c.args.p pre.0 pre.1 c.args.multipliers.now c.args.errors.now pre.4 pre.5 c.args.j),
-      held_small other c.dropped_noise-dropped.ensures (dropped_most c.args.p pre.0 pre.1 c.args),
+      held_small other c.dropped_noise-dropped.ensures (dropped_most c.args.p pre.0 pre.1 c.args.before),
     )
 
 pub returns : goal.returns

@@ -12,6 +12,7 @@ use Rattle.scheme.specs.Encryption.{secret_seed}
 use Rattle.scheme.proofs.Bytes.{public_key_length}
 use Rattle.scheme.proofs.Conditions.{listed_conditions}
 use Rattle.sheet_noise.proofs.Drawn.{key_below, before_residues, noise_places}
+use Rattle.sheet_noise.proofs.noise_with_buffers.Goals.{After-source_bytes}
 use Rattle.sheet_noise.proofs.noise_with_buffers.Goals as goal
 
 pub source_bytes-requires : goal.source_bytes-requires
@@ -31,11 +32,11 @@ numbers_before_packing-requires c =
     )
 
 -- the secret seed
-secret_is : (c : goal.After-source_bytes)
+secret_is : (c : After-source_bytes)
     → c.source_bytes.new.out ≡ secret_seed c.args.p c.args.seed.now
 unfolding secret_seed
 secret_is c =
-    c.source_bytes.ensures.1
+    c.source_bytes.ensures.bytes
     ∙ ap (λ (n : ℕ). (output c.args.p (initial c.args.seed.now) n).bytes) c.requires.9
 
 pub noise_from-requires : goal.noise_from-requires
@@ -47,7 +48,7 @@ noise_from-requires c =
       pre.1,
       c.source_bytes.auto.out ∙ pre.9,
       pre.4,
-      ap (λ (xs : List ℕ). is_taken (secret_drawn p xs)) (secret_is c.before.before.before.before.before.before.before.before.before.before.before) ∙ pre.6,
+      ap (λ (xs : List ℕ). is_taken (secret_drawn p xs)) (secret_is (goal.at.noise_from-requires c).After-source_bytes) ∙ pre.6,
       before_residues p pre.0 pre.1 c.args.seed.now c.args.message.now c.args.sealing.now c.args.public.now _
           made.ensures,
       made.auto.out ∙ pre.10,
@@ -60,4 +61,4 @@ returns c =
     let pre = c.requires in
     c.noise_from.ensures
     ∙ noise_places c.args.p pre.0 pre.1 c.args.seed.now c.args.message.now c.args.sealing.now _ _
-    c.args.public.now (secret_is c.before.before.before.before.before.before.before.before.before.before.before.before.before.before.before) pre.5 c.numbers_before_packing.ensures
+    c.args.public.now (secret_is (goal.at.returns c).After-source_bytes) pre.5 c.numbers_before_packing.ensures

@@ -10,14 +10,15 @@ use Rattle.sets.specs.declared.Parameters.{Parameters}
 use Rattle.sets.proofs.Rules.{rules_of, byte_rules_of}
 use Rattle.sheet_rows.proofs.Sets.{sheet_set, work_most}
 use Rattle.sheet_rows.proofs.RowLaws.{input_long, bench_lengths, bench_filled, seeded_filled}
+use Rattle.sheet_rows.proofs.fill.Goals.{After-work_length-size}
 use Rattle.sheet_rows.proofs.fill.Goals as goal
 
 -- the input of an encryption set
-long : (c : goal.After-work_length-size) → length c.args.input.now ≡ 97
+long : (c : After-work_length-size) → length c.args.input.now ≡ 97
 long c = c.requires.1 ∙ input_long c.args.set c.if-set-lt1.false
 
 -- the work slice has room
-room : (c : goal.After-work_length-size) → c.work_length-size.result ≤ length c.args.work.now
+room : (c : After-work_length-size) → c.work_length-size.result ≤ length c.args.work.now
 room c =
     omega (arith, work_most c.args.set c.requires.0, c.work_length-size.ensures, ap work_length_of c.requires.6, c.requires.5)
 
@@ -32,7 +33,7 @@ pub returns-then-set-lt1 : goal.returns-then-set-lt1
 returns-then-set-lt1 c =
     let args = c.args in
     let made = c.bench_rows.ensures in let whole = bench_filled args.set args.input.now _ args.noise.now _ args.sent.now _ args.read.now _ c.if-set-lt1.true c.requires.1
-    made.0 made.1.0 made.1.1.0 made.1.1.1 in record { answer = whole.0; rows = whole.1 }
+    made.answer made.noises.0 made.noises.1.0 made.noises.1.1 in record { answer = whole.0; rows = whole.1 }
 
 pub work_length-size-requires : goal.work_length-size-requires
 work_length-size-requires c =
@@ -42,22 +43,22 @@ pub slice_bounds-seeded_rows-end : goal.slice_bounds-seeded_rows-end
 slice_bounds-seeded_rows-end c = omega (arith, long c)
 
 pub slice_bounds-seeded_rows-end-2 : goal.slice_bounds-seeded_rows-end-2
-slice_bounds-seeded_rows-end-2 c = omega (arith, long c.before)
+slice_bounds-seeded_rows-end-2 c = omega (arith, long (goal.at.slice_bounds-seeded_rows-end-2 c).After-work_length-size)
 
 pub slice_bounds-seeded_rows-end-3 : goal.slice_bounds-seeded_rows-end-3
-slice_bounds-seeded_rows-end-3 c = omega (arith, long c.before.before)
+slice_bounds-seeded_rows-end-3 c = omega (arith, long (goal.at.slice_bounds-seeded_rows-end-3 c).After-work_length-size)
 
 pub slice_bounds-seeded_rows-end-4 : goal.slice_bounds-seeded_rows-end-4
-slice_bounds-seeded_rows-end-4 c = omega (arith, room c.before.before.before.before.before.before)
+slice_bounds-seeded_rows-end-4 c = omega (arith, room (goal.at.slice_bounds-seeded_rows-end-4 c).After-work_length-size)
 
 pub seeded_rows-requires : goal.seeded_rows-requires
 seeded_rows-requires c =
     let pre = c.requires in
     let input = c.args.input.now in
-    let size = long c.before.before.before.before.before.before.before in
+    let size = long (goal.at.seeded_rows-requires c).After-work_length-size in
     let set = c.args.set in
     let low = sheet_set set pre.0 in (
-      byte_rules_of set low _ pre.6 c.if-set-lt1.left,
+      byte_rules_of set low _ pre.6 c.if-set-lt1.false,
       record { set = set; is_set = low; listed = pre.6 },
       part_length input 1 33 32 refl (rw size (omega arith)),
       part_length input 65 97 32 refl (rw size (omega arith)),
@@ -65,10 +66,10 @@ seeded_rows-requires c =
       pre.2,
       pre.3,
       pre.4,
-      front_length c.args.work.now c.work_length-size.result (room c.before.before.before.before.before.before.before) ∙ c.work_length-size.ensures,
+      front_length c.args.work.now c.work_length-size.result (room (goal.at.seeded_rows-requires c).After-work_length-size) ∙ c.work_length-size.ensures,
     )
 
 pub returns : goal.returns
 returns c =
-    let whole = seeded_filled c.args.set c.args.p c.args.input.now _ _ _ _ c.if-set-lt1.left c.requires.6
-    c.seeded_rows.ensures.0 c.seeded_rows.ensures.1 in record { answer = whole.0; rows = whole.1 }
+    let whole = seeded_filled c.args.set c.args.p c.args.input.now _ _ _ _ c.if-set-lt1.false c.requires.6
+    c.seeded_rows.ensures.answer c.seeded_rows.ensures.rows in record { answer = whole.0; rows = whole.1 }

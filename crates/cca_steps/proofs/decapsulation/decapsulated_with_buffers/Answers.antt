@@ -6,7 +6,6 @@ use mathlib.Core.Bool.{true}
 use mathlib.Core.List.{List}
 use Prim.Native.Nat.{ℕ}
 use borrow.Author.Rules.{rules}
-use borrow.Author.Tests.{not-true, not-false}
 use lib.ListN.{drop}
 use Rattle.calls.specs.Outcome.{outcome}
 use Rattle.calls.proofs.Outcome.{refused_call}
@@ -14,10 +13,11 @@ use Rattle.calls.proofs.Parts.{rest_whole}
 use Rattle.scheme.specs.Encryption.{key_numbers}
 use Rattle.scheme.specs.Answers.{only_residues}
 use Rattle.cca_steps.proofs.Steps.{numbers_refuse, draw_refuses, decapsulated_made}
+use Rattle.cca_steps.proofs.decapsulation.decapsulated_with_buffers.Goals.{After-key_below, Else-not-key_below}
 use Rattle.cca_steps.proofs.decapsulation.decapsulated_with_buffers.Goals as goal
 
 -- what that check tells
-told : (c : goal.After-key_below) → let args = c.args in
+told : (c : After-key_below) → let args = c.args in
     only_residues args.p.q (key_numbers args.p (drop 32 args.secret.now)) ≡ c.key_below.result
 told c =
     let args = c.args in
@@ -25,13 +25,13 @@ told c =
     sym (c.key_below.ensures ∙ ap below (rest_whole args.secret.now 32))
 
 -- all numbers are below q
-passed : (c : goal.Else-not-key_below) → let args = c.args in
+passed : (c : Else-not-key_below) → let args = c.args in
     only_residues args.p.q (key_numbers args.p (drop 32 args.secret.now)) ≡ true
-passed c = told c.before.before.before ∙ not-false _ c.if-not-key_below.false
+passed c = told (goal.at.Else-not-key_below c).After-key_below ∙ c.if-not-key_below.false
 
 pub returns-then-not-key_below : goal.returns-then-not-key_below
 returns-then-not-key_below c =
-    let args = c.args in let whole = refused_call _ _ (numbers_refuse args.p args.secret.now (told c.before.before.before ∙ not-true _ c.if-not-key_below.true)) in record { answer = whole.0; agreed = whole.1 }
+    let args = c.args in let whole = refused_call _ _ (numbers_refuse args.p args.secret.now (told (goal.at.returns-then-not-key_below c).After-key_below ∙ c.if-not-key_below.true)) in record { answer = whole.0; agreed = whole.1 }
 
 pub decrypt-answer-requires : goal.decrypt-answer-requires
 decrypt-answer-requires c =
@@ -41,7 +41,7 @@ pub returns-in_default : goal.returns-in_default
 returns-in_default c =
     let args = c.args in
     let refusal = ap outcome c.in_default.is in
-    let left = refused_call _ _ (draw_refuses args.p args.secret.now (passed c.before.before.before.before.before.before.before.before.before.before.before.before) (sym c.decrypt-answer.ensures.0 ∙ refusal)) in record { answer = refusal ∙ left.0; agreed = left.1 }
+    let left = refused_call _ _ (draw_refuses args.p args.secret.now (passed (goal.at.returns-in_default c).Else-not-key_below) (sym c.decrypt-answer.ensures.answer ∙ refusal)) in record { answer = refusal ∙ left.0; agreed = left.1 }
 
 pub key_of_message-requires : goal.key_of_message-requires
 key_of_message-requires c =
@@ -51,5 +51,5 @@ pub returns : goal.returns
 returns c =
     let args = c.args in
     let message = c.decrypt-answer.ensures in
-    let key = c.key_of_message.ensures in let whole = decapsulated_made args.p args.secret.now (passed c.before.before.before.before.before.before.before.before.before.before.before.before.before.before.before.before.before.before.before.before.before.before) args.ciphertext.now _ args.message.now _ _ args.shared.now _
-    (sym message.0 ∙ ap outcome c.in-Done.is) message.1.1 message.1.0 key.0 key.1 in record { answer = whole.0; agreed = whole.1 }
+    let key = c.key_of_message.ensures in let whole = decapsulated_made args.p args.secret.now (passed (goal.at.returns c).Else-not-key_below) args.ciphertext.now _ args.message.now _ _ args.shared.now _
+    (sym message.answer ∙ ap outcome c.in-Done.is) message.halves.1 message.halves.0 key.answer key.agreed in record { answer = whole.0; agreed = whole.1 }

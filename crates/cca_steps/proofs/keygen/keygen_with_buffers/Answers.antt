@@ -7,24 +7,25 @@ use Rattle.calls.proofs.Outcome.{leaves_refused}
 use Rattle.scheme.specs.Exchange.{inner_seed}
 use Rattle.scheme.specs.Answers.{key_draws}
 use Rattle.cca_steps.proofs.Steps.{inner_made, public_made, secret_made}
+use Rattle.cca_steps.proofs.keygen.keygen_with_buffers.Goals.{After-source_bytes}
 use Rattle.cca_steps.proofs.keygen.keygen_with_buffers.Goals as goal
 
 -- the inner seed is the first half of what the seed expands to
-inner : (c : goal.After-source_bytes) → take 32 c.source_bytes.new.out ≡ inner_seed c.args.p c.args.seed.now
-inner c = inner_made c.args.p c.args.seed.now _ _ c.requires.6 c.source_bytes.ensures.1
+inner : (c : After-source_bytes) → take 32 c.source_bytes.new.out ≡ inner_seed c.args.p c.args.seed.now
+inner c = inner_made c.args.p c.args.seed.now _ _ c.requires.6 c.source_bytes.ensures.bytes
 
 pub returns-in_default : goal.returns-in_default
 returns-in_default c =
     let p = c.args.p in
-    let seed = inner c.before.before.before.before.before.before.before.before.before.before.before.before.before.before.before in
-    let decided = sym (c.keygen-answer.ensures.0 ∙ ap (key_draws p) seed) ∙ ap outcome c.in_default.is in
-    let public = public_made p c.args.seed.now _ _ c.args.public.now seed c.keygen-answer.ensures.1.0 in let whole = (ap outcome c.in_default.is ∙ sym decided, (public, sym (leaves_refused _ _ decided))) in record { answer = whole.0; given = whole.1; kept = whole.2 }
+    let seed = inner (goal.at.returns-in_default c).After-source_bytes in
+    let decided = sym (c.keygen-answer.ensures.answer ∙ ap (key_draws p) seed) ∙ ap outcome c.in_default.is in
+    let public = public_made p c.args.seed.now _ _ c.args.public.now seed c.keygen-answer.ensures.public.0 in let whole = (ap outcome c.in_default.is ∙ sym decided, (public, sym (leaves_refused _ _ decided))) in record { answer = whole.0; given = whole.1; kept = whole.2 }
 
 pub returns : goal.returns
 returns c =
     let p = c.args.p in
-    let seed = inner c.before.before.before.before.before.before.before.before.before.before.before.before.before.before.before.before.before.before.before in
-    let decided = sym (c.keygen-answer.ensures.0 ∙ ap (key_draws p) seed) ∙ ap outcome c.in-Done.is in
-    let public = public_made p c.args.seed.now _ _ c.args.public.now seed c.keygen-answer.ensures.1.0 in
+    let seed = inner (goal.at.returns c).After-source_bytes in
+    let decided = sym (c.keygen-answer.ensures.answer ∙ ap (key_draws p) seed) ∙ ap outcome c.in-Done.is in
+    let public = public_made p c.args.seed.now _ _ c.args.public.now seed c.keygen-answer.ensures.public.0 in
     let written = c.write_both.ensures in
     let secret = secret_made p c.args.seed.now _ c.args.public.now _ c.args.secret.now decided public written in let whole = (ap outcome c.in-Done.is ∙ sym decided, (public, secret)) in record { answer = whole.0; given = whole.1; kept = whole.2 }

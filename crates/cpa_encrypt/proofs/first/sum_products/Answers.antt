@@ -11,6 +11,7 @@ use Rattle.sets.proofs.Rules.{listed_rules}
 use Rattle.ntt_products.proofs.Laws.{rules_odd}
 use Rattle.cpa_encrypt.proofs.Adding.{adding_none, adding_more, adding_addends, adding_all}
 use Rattle.cpa_encrypt.proofs.Adding.{PolynomialSent, polynomial_sent, polynomial_refused, counter_small}
+use Rattle.cpa_encrypt.proofs.first.sum_products.Goals.{In-Counter-2, In-loop-i}
 use Rattle.cpa_encrypt.proofs.first.sum_products.Goals as goal
 
 pub negated_inverse-k-requires : goal.negated_inverse-k-requires
@@ -21,13 +22,13 @@ pub loop-i-init : goal.loop-i-init
 loop-i-init c = adding_none c.args.p c.requires.1 _ _ _ _ _ c.requires.5 c.requires.6 c.requires.7
 
 -- a is one of t
-turn_below : (c : goal.In-loop-i) → c.loop-i.i < c.args.p.t
+turn_below : (c : In-loop-i) → c.loop-i.i < c.args.p.t
 turn_below c = omega (arith, c.loop-i-test.true)
 
 pub send_multipliers-requires : goal.send_multipliers-requires
 send_multipliers-requires c =
     let pre = c.requires in
-    (pre.1, pre.4, pre.3, turn_below c.before, c.loop-i.invariant.x_size)
+    (pre.1, pre.4, pre.3, turn_below (goal.at.send_multipliers-requires c).In-loop-i, c.loop-i.invariant.x_size)
 
 pub send_drawn-drawn-requires : goal.send_drawn-drawn-requires
 send_drawn-drawn-requires c =
@@ -42,34 +43,34 @@ returns-in_default c =
     let refusal = c.in_default.is in
     let none =
     polynomial_refused c.args.p c.requires.1 c.args.seed.now c.args.multipliers.now _ this.i this.invariant.reached _ c.requires.0
-    (turn_below c.before.before.before.before.before.before.before.before.before.before.before) (sym c.send_drawn-drawn.ensures.0 ∙ ap (onward c.args.seed.now) refusal) in
+    (turn_below (goal.at.returns-in_default c).In-loop-i) (sym c.send_drawn-drawn.ensures.answer ∙ ap (onward c.args.seed.now) refusal) in
     let answer = ap (λ (k : ℕ). refused k 0) (c.refusal_of.ensures ∙ ap refused_by refusal) in record { answer = answer ∙ none; result = λ e. absurd (accepted_refused e refl) }
 
 -- the polynomial of a is drawn and sent
-sent_here : (c : goal.In-Counter-2) → PolynomialSent c.args.p c.args.seed.now c.loop-i.i
+sent_here : (c : In-Counter-2) → PolynomialSent c.args.p c.args.seed.now c.loop-i.i
     (state_at c.args.seed.now c.in-Counter.next) c.send_drawn-drawn.new.y
 sent_here c =
     let this = c.loop-i in
     let draw = c.send_drawn-drawn.ensures in
     polynomial_sent c.args.p c.requires.1 c.args.seed.now c.args.multipliers.now _ this.i this.invariant.reached _ _
-    (sym draw.0 ∙ ap (onward c.args.seed.now) c.in-Counter.is) draw.1
+    (sym draw.answer ∙ ap (onward c.args.seed.now) c.in-Counter.is) draw.result
 
 pub accumulate-requires : goal.accumulate-requires
 accumulate-requires c =
     adding_addends c.args.p c.requires.1 c.args.seed.now c.args.multipliers.now c.negated_inverse-k.ensures
-    c.loop-i.invariant c.send_multipliers.ensures (sent_here c.before.before).y_is
+    c.loop-i.invariant c.send_multipliers.ensures (sent_here (goal.at.accumulate-requires c).In-Counter-2).y_is
 
 pub overflow_add-i : goal.overflow_add-i
 overflow_add-i c =
-    omega (arith, c.loop-i-test.taken, (listed_rules c.args.p c.requires.1).most_t)
+    omega (arith, c.loop-i-test.true, (listed_rules c.args.p c.requires.1).most_t)
 
 pub loop-i-smaller : goal.loop-i-smaller
-loop-i-smaller c = omega (arith, c.loop-i-test.taken)
+loop-i-smaller c = omega (arith, c.loop-i-test.true)
 
 pub loop-i-preserved : goal.loop-i-preserved
 loop-i-preserved c =
-    adding_more c.args.p c.requires.1 c.args.seed.now c.args.multipliers.now _ _ _ _ c.loop-i.invariant (turn_below c.before.before.before.before.before.before.before.before.before.before.before.before.before.before.before)
-    (sent_here c.before.before.before.before.before) c.send_multipliers.ensures c.accumulate.ensures
+    adding_more c.args.p c.requires.1 c.args.seed.now c.args.multipliers.now _ _ _ _ c.loop-i.invariant (turn_below (goal.at.loop-i-preserved c).In-loop-i)
+    (sent_here (goal.at.loop-i-preserved c).In-Counter-2) c.send_multipliers.ensures c.accumulate.ensures
 
 pub returns : goal.returns
 returns c =

@@ -13,10 +13,11 @@ use Rattle.packing.proofs.Laws.{pack_length}
 use Rattle.cpa_keygen.specs.Held.{vectors_start_of}
 use Rattle.cpa_keygen.proofs.Room.{seed_room, vectors_room, work_most}
 use Rattle.calls.proofs.Parts.{part_length, two_parts}
+use Rattle.cpa_keygen.proofs.bytes.write_public_key.Goals.{After-vectors_end-end}
 use Rattle.cpa_keygen.proofs.bytes.write_public_key.Goals as goal
 
 -- the stored vectors as they are lent
-vectors_part : (c : goal.After-vectors_end-end) → let from = c.vectors_start-start.result in take (c.vectors_end-end.result - from) (drop from c.args.work.now)
+vectors_part : (c : After-vectors_end-end) → let from = c.vectors_start-start.result in take (c.vectors_end-end.result - from) (drop from c.args.work.now)
     ≡ region c.args.work.now (vectors_start_of c.args.p) (c.args.p.d1 * c.args.p.t)
 vectors_part c =
     let from = c.vectors_start-start in
@@ -48,7 +49,7 @@ slice_bounds-pack_into-start-2 c =
 
 pub pack_into-requires : goal.pack_into-requires
 pack_into-requires c =
-    let pre = c.requires.byte_rules in let whole = rw (vectors_part c.before.before.before.before.before.before) (
+    let pre = c.requires.byte_rules in let whole = rw (vectors_part (goal.at.pack_into-requires c).After-vectors_end-end) (
       record { least = omega (arith, pre.0.kept_byte); most = omega (arith, (listed_rules c.args.p pre.1).width_most) },
       c.requires.digit,
     ) in record { widths = whole.0; digit = whole.1 }
@@ -65,7 +66,7 @@ returns c =
     let rest : length (take (length copied.new.dst - 32) (drop 32 copied.new.dst)) ≡ bytes =
     part_length copied.new.dst 32 (length copied.new.dst) bytes room (omega arith) in
     let made : packed.new.out ≡ pack p.width bytes (region c.args.work.now (vectors_start_of p) (p.d1 * p.t)) =
-    rw (vectors_part c.before.before.before.before.before.before.before.before.before, rest) c packed.ensures in
+    rw (vectors_part (goal.at.returns c).After-vectors_end-end, rest) c packed.ensures in
     two_parts c.args.out.now copied.new.dst c.args.seed.now packed.new.out 32 copied.ensures pre.2
     (pre.4 ∙ ap (λ (n : ℕ). 32 + n) (sym (ap length made ∙ pack_length p.width _ _)))
     ∙ rw made

@@ -10,10 +10,11 @@ use Rattle.samplers.specs.Seeded.{public_drawn}
 use Rattle.scheme.proofs.Taken.{all_taken_false}
 use Rattle.cpa_keygen.proofs.Drawn.{true_false, advanced, stopped, public_never_ends, refuse_taken, refuse_not_taken}
 use Rattle.cpa_keygen.proofs.KeyVectors.{vectors_none, vectors_more, held_still}
+use Rattle.cpa_keygen.proofs.vectors.all_vectors.Goals.{After-next_vector-drawn}
 use Rattle.cpa_keygen.proofs.vectors.all_vectors.Goals as goal
 
 -- a is below the count of polynomials
-below : (c : goal.After-next_vector-drawn) → c.loop-i.i < c.args.p.t
+below : (c : After-next_vector-drawn) → c.loop-i.i < c.args.p.t
 below c = c.loop-i-test.true
 
 pub loop-i-init : goal.loop-i-init
@@ -37,12 +38,12 @@ returns-in_default c =
     let told = c.in_default.is in
     let none =
     stopped _ _ (public_drawn p seed i) (λ xs run. public_never_ends p c.requires.0 seed xs run i)
-    (sym (ap (onward seed) told) ∙ c.next_vector-drawn.ensures.0) in
-    let one = all_taken_false p.t (public_drawn p seed) i (below c.before.before.before.before.before.before.before) none.not_taken in record { answer = refuse_not_taken accepted one (c.refusal_of.ensures ∙ ap refused_by told ∙ none.five); result = λ t. absurd (true_false t one) }
+    (sym (ap (onward seed) told) ∙ c.next_vector-drawn.ensures.answer) in
+    let one = all_taken_false p.t (public_drawn p seed) i (below (goal.at.returns-in_default c).After-next_vector-drawn) none.not_taken in record { answer = refuse_not_taken accepted one (c.refusal_of.ensures ∙ ap refused_by told ∙ none.five); result = λ t. absurd (true_false t one) }
 
 pub overflow_add-i : goal.overflow_add-i
 overflow_add-i c =
-    record { fits = omega (arith, below c.before.before.before.before.before.before.before, (listed_rules c.args.p c.requires.1).most_t) }
+    record { fits = omega (arith, below (goal.at.overflow_add-i c).After-next_vector-drawn, (listed_rules c.args.p c.requires.1).most_t) }
 
 pub loop-i-preserved : goal.loop-i-preserved
 loop-i-preserved c =
@@ -51,11 +52,11 @@ loop-i-preserved c =
     let seed = c.args.seed.now in
     let this = c.loop-i in
     let vector = c.next_vector-drawn in
-    let drawn = advanced _ _ (public_drawn p seed this.i) (sym (ap (onward seed) c.in-Counter.is) ∙ vector.ensures.0) in (
+    let drawn = advanced _ _ (public_drawn p seed this.i) (sym (ap (onward seed) c.in-Counter.is) ∙ vector.ensures.answer) in (
       vector.auto.x ∙ this.invariant.0,
       vector.auto.work ∙ this.invariant.1,
-      vectors_more p pre.0 pre.1 seed c.args.work.now pre.6 this.i this.counter this.work this.invariant.2 _ _ (below c.before.before.before.before.before.before.before)
-          drawn.all_taken_lem drawn.next_is (vector.ensures.1 drawn.all_taken_lem),
+      vectors_more p pre.0 pre.1 seed c.args.work.now pre.6 this.i this.counter this.work this.invariant.2 _ _ (below (goal.at.loop-i-preserved c).After-next_vector-drawn)
+          drawn.all_taken_lem drawn.next_is (vector.ensures.result drawn.all_taken_lem),
     )
 
 pub returns : goal.returns

@@ -15,16 +15,17 @@ use Rattle.calls.proofs.Parts.{front_length}
 use Rattle.scheme.proofs.Taken.{taken_numbers}
 use Rattle.cpa_keygen.proofs.Drawn.{public_answer, public_draw}
 use borrow.Author.Rules.{rules}
+use Rattle.cpa_keygen.proofs.vectors.draw_polynomial.Goals.{Start}
 use Rattle.cpa_keygen.proofs.vectors.draw_polynomial.Goals as goal
 
 -- the polynomial lies in `x`
-room : (c : goal.Start) → c.args.p.n ≤ length c.args.x.now
+room : (c : Start) → c.args.p.n ≤ length c.args.x.now
 room c =
     let kept = listed_rules c.args.p c.requires.1 in
     omega (arith, c.requires.5, third_size c.args.p, kept.holds3, kept.some_d, kept.some_k)
 
 pub slice_bounds-residues_from-end : goal.slice_bounds-residues_from-end
-slice_bounds-residues_from-end c = room c.before.before
+slice_bounds-residues_from-end c = room (goal.at.slice_bounds-residues_from-end c).Start
 
 pub residues_from-requires : goal.residues_from-requires
 residues_from-requires c =
@@ -33,7 +34,7 @@ residues_from-requires c =
     let kept = listed_rules p pre.1 in
     let bytes = pre.0 in
     let small = public_state_small p kept bytes c.args.seed.now c.args.i (omega (arith, pre.3)) in
-    let counter = ap (λ (s : State). s.counter) pre.4 in let whole = rw (front_length c.args.x.now p.n (room c.before.before.before)) (
+    let counter = ap (λ (s : State). s.counter) pre.4 in let whole = rw (front_length c.args.x.now p.n (room (goal.at.residues_from-requires c).Start)) (
       (kept, omega (arith, pre.2), bytes.some_bytpca, omega (arith, bytes.most_bytpca)),
       (kept.some_n, omega (arith, counter, small, kept.most_n)),
     ) in record { rules = whole.0; out_nonzero = whole.1 }
@@ -45,6 +46,6 @@ returns c =
     let seed = c.args.seed.now in
     let i = c.args.i in
     let drawn = c.residues_from in
-    let front = front_length c.args.x.now p.n (room c.before.before.before.before.before.before) in record { answer = drawn.ensures.0 ∙ public_answer p seed i front c.requires.4; result = λ t.
+    let front = front_length c.args.x.now p.n (room (goal.at.returns c).Start) in record { answer = drawn.ensures.answer ∙ public_answer p seed i front c.requires.4; result = λ t.
           take_at drawn.new.out _ p.n (drawn.auto.out ∙ front)
-          ∙ drawn.ensures.1 (public_polynomial p seed i) (public_draw p seed i front c.requires.4 ∙ taken_numbers (public_drawn p seed i) t) }
+          ∙ drawn.ensures.result (public_polynomial p seed i) (public_draw p seed i front c.requires.4 ∙ taken_numbers (public_drawn p seed i) t) }

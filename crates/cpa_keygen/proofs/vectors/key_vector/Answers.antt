@@ -10,10 +10,11 @@ use Rattle.sets.proofs.Transforms.{third_size}
 use Rattle.cpa_keygen.proofs.Room.{errors_short, errors_room, vectors_room, secret_room}
 use Rattle.calls.proofs.Parts.{front_part}
 use Rattle.cpa_keygen.proofs.KeyVectors.{secret_placed, errors_part, errors_length, errors_below, correlated_below, key_vector_lem}
+use Rattle.cpa_keygen.proofs.vectors.key_vector.Goals.{After-transform_size-secret}
 use Rattle.cpa_keygen.proofs.vectors.key_vector.Goals as goal
 
 -- the secret as it is lent
-secret_part : (c : goal.After-transform_size-secret) → take (c.transform_size-secret.result - 0) c.args.work.now ≡ region c.args.work.now 0 c.args.p.d3
+secret_part : (c : After-transform_size-secret) → take (c.transform_size-secret.result - 0) c.args.work.now ≡ region c.args.work.now 0 c.args.p.d3
 secret_part c =
     front_part c.args.work.now c.args.p.d3 c.transform_size-secret.result (c.transform_size-secret.ensures ∙ third_size c.args.p)
 
@@ -47,7 +48,7 @@ correlate-requires c =
       pre.3,
       pre.4,
       kept.some_n,
-      rw (secret_part c.before.before.before.before) (secret_placed p pre.0 pre.1 c.args.work.now pre.5),
+      rw (secret_part (goal.at.correlate-requires c).After-transform_size-secret) (secret_placed p pre.0 pre.1 c.args.work.now pre.5),
       rw c.vector_length-count.ensures (omega (arith, third_size p, kept.holds3, kept.some_n)),
     )
 
@@ -85,7 +86,7 @@ add_errors-requires c =
       errors_length p pre.0 pre.1 i pre.2 work pre.5,
     ) (
       omega (arith, size, third_size p, kept.holds1, kept.rising1, kept.rising2),
-      correlated_below p pre.0 pre.1 i pre.2 work pre.5 c.args.x.now _ pre.4 (secret_part c.before.before.before.before.before.before.before.before.before) c.vector_length-count.ensures
+      correlated_below p pre.0 pre.1 i pre.2 work pre.5 c.args.x.now _ pre.4 (secret_part (goal.at.add_errors-requires c).After-transform_size-secret) c.vector_length-count.ensures
           c.correlate.ensures size,
       errors_below p pre.0 pre.1 i pre.2 work pre.5,
       kept.small,
@@ -101,5 +102,5 @@ returns c =
     errors_part p pre.0 pre.1 i pre.2 work pre.5 c.errors_start-start.result c.vector_length-count.result
     c.errors_start-start.ensures c.vector_length-count.ensures in
     ap (take (p.d + p.k)) (rw errors at c.add_errors.ensures)
-    ∙ key_vector_lem p pre.0 pre.1 i pre.2 work pre.5 c.args.x.now _ pre.4 (secret_part c.before.before.before.before.before.before.before.before.before.before.before.before) c.vector_length-count.ensures
+    ∙ key_vector_lem p pre.0 pre.1 i pre.2 work pre.5 c.args.x.now _ pre.4 (secret_part (goal.at.returns c).After-transform_size-secret) c.vector_length-count.ensures
     c.correlate.ensures (c.correlate.auto.x ∙ pre.4.size)

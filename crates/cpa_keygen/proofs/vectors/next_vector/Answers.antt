@@ -16,7 +16,7 @@ returns-in_default c =
     let seed = c.args.seed.now in
     let none =
     stopped _ _ (public_drawn p seed c.args.i) (λ xs run. public_never_ends p c.requires.0 seed xs run c.args.i)
-    (sym (ap (onward seed) c.in_default.is) ∙ c.draw_polynomial-drawn.ensures.0) in record { answer = c.draw_polynomial-drawn.ensures.0; result = λ t. absurd (true_false t none.not_taken) }
+    (sym (ap (onward seed) c.in_default.is) ∙ c.draw_polynomial-drawn.ensures.answer) in record { answer = c.draw_polynomial-drawn.ensures.answer; result = λ t. absurd (true_false t none.not_taken) }
 
 pub key_vector-requires : goal.key_vector-requires
 key_vector-requires c =
@@ -24,10 +24,10 @@ key_vector-requires c =
     let p = c.args.p in
     let seed = c.args.seed.now in
     let polynomial = c.draw_polynomial-drawn in
-    let drawn = advanced _ _ (public_drawn p seed c.args.i) (sym (ap (onward seed) c.in-Counter.is) ∙ polynomial.ensures.0) in
+    let drawn = advanced _ _ (public_drawn p seed c.args.i) (sym (ap (onward seed) c.in-Counter.is) ∙ polynomial.ensures.answer) in
     let placed =
-    polynomial_placed p pre.1 seed polynomial.last.1.1.1.1.0 c.args.i (polynomial.auto.x ∙ pre.7)
-    (polynomial.ensures.1 drawn.all_taken_lem) in
+    polynomial_placed p pre.1 seed polynomial.new.x c.args.i (polynomial.auto.x ∙ pre.7)
+    (polynomial.ensures.result drawn.all_taken_lem) in
     (pre.0, pre.1, pre.3, pre.5, placed, pre.8)
 
 pub store_vector-requires : goal.store_vector-requires
@@ -42,7 +42,7 @@ pub returns : goal.returns
 returns c =
     let p = c.args.p in
     let work = c.args.work.now in
-    let polynomial = c.draw_polynomial-drawn in record { answer = polynomial.ensures.0; result = λ t.
+    let polynomial = c.draw_polynomial-drawn in record { answer = polynomial.ensures.answer; result = λ t.
           c.store_vector.ensures
           ∙ ap (over work (vectors_start_of p + p.d1 * c.args.i))
-          (stored_is p c.args.seed.now work _ _ c.args.i c.key_vector.ensures (polynomial.ensures.1 t)) }
+          (stored_is p c.args.seed.now work _ _ c.args.i c.key_vector.ensures (polynomial.ensures.result t)) }

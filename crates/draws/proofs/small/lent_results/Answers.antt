@@ -2,7 +2,6 @@
 -- Assumes nothing.
 use mathlib.Core.Path.{sym, ◌∙◌}
 use Prim.Native.Nat.{◌-◌}
-use borrow.Author.Tests.{not-true, not-false}
 use Rattle.draws.proofs.Positions.{lent_none, lent_more, lent_stop, lent_all}
 use Rattle.draws.proofs.small.lent_results.Goals as goal
 
@@ -10,11 +9,11 @@ pub loop-i-init : goal.loop-i-init
 loop-i-init c = lent_none _ _ _ _
 
 pub returns-then-not-is_lent : goal.returns-then-not-is_lent
-returns-then-not-is_lent c = lent_stop c.loop-i.invariant (sym c.is_lent.ensures ∙ not-true _ c.if-not-is_lent.true)
+returns-then-not-is_lent c = lent_stop c.loop-i.invariant (sym c.is_lent.ensures ∙ c.if-not-is_lent.true)
 
 pub loop-i-preserved : goal.loop-i-preserved
 loop-i-preserved c =
-    lent_more c.loop-i.invariant c.loop-i-test.true (sym c.is_lent.ensures ∙ not-false _ c.if-not-is_lent.false)
+    lent_more c.loop-i.invariant c.loop-i-test.true (sym c.is_lent.ensures ∙ c.if-not-is_lent.false)
 
 pub returns : goal.returns
 returns c = lent_all c.loop-i.invariant c.loop-i-test.false

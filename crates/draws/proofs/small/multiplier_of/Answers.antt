@@ -18,3 +18,12 @@ overflow_sub-result-2 c = multiplier_fits _ _ _ _ c.low_bits-size.ensures.0 c.lo
 
 pub returns : goal.returns
 returns c = multiplier_is _ _ _ _ c.low_bits-size.ensures.0 c.low_bits-size.ensures.1 c.requires.1
+
+pub overflow_add-size : goal.overflow_add-size
+overflow_add-size c = omega arith
+
+pub overflow_add-result : goal.overflow_add-result
+overflow_add-result c = omega arith
+
+pub overflow_mul-result : goal.overflow_mul-result
+overflow_mul-result c = omega arith

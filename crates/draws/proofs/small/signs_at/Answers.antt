@@ -8,8 +8,6 @@ use Rattle.draws.proofs.small.signs_at.Goals as goal
 pub overflow_mul-result : goal.overflow_mul-result
 overflow_mul-result c =
     let pre = c.requires in
-    let count = pre.0.most_multipliers in
-    let width = pre.1.most_size in
     record { fits = omega (arith, place_most c.multiplier_count.result c.multiplier_bytes.result (omega arith) (omega arith)) }
 
 pub returns : goal.returns

@@ -9,7 +9,7 @@ use Rattle.draws.proofs.uniform.draw_one.Goals as goal
 pub returns-then-bytes-lt3 : goal.returns-then-bytes-lt3
 returns-then-bytes-lt3 c =
     let args = c.args in
-    sampling_end (sampling_none args.bytes.now args.at args.q args.threshold args c.requires.1) (omega arith)
+    sampling_end (sampling_none args.bytes.now args.at args.q args.threshold args.before c.requires.1) (omega arith)
 
 pub loop-position-init : goal.loop-position-init
 loop-position-init c = sampling_none _ _ _ _ _ (omega arith)
@@ -39,3 +39,6 @@ loop-position-preserved c =
 
 pub returns : goal.returns
 returns c = sampling_end c.loop-position.invariant (omega arith)
+
+pub loop-position-smaller : goal.loop-position-smaller
+loop-position-smaller c = omega arith

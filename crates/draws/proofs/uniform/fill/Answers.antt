@@ -18,7 +18,6 @@ returns-in_default c =
 
 pub loop-i-preserved : goal.loop-i-preserved
 loop-i-preserved c =
-    let drawn = c.residue-1.given in
     filling_more c.loop-i.invariant (omega arith) c.in-Number.residue c.in-Number.next
     (sym c.draw_one.ensures ∙ ap sample c.in-Number.is)
 

@@ -18,7 +18,6 @@ returns-in_default c =
 
 pub loop-i-preserved : goal.loop-i-preserved
 loop-i-preserved c =
-    let drawn = c.drawn-1.given in
     looking_more c.loop-i.invariant c.in-Number.field-0 c.in-Number.next c.loop-i-test.true
     (sym c.draw_one-drawn.ensures ∙ ap sample c.in-Number.is)
 

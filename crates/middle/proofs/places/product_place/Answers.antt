@@ -4,13 +4,14 @@ use mathlib.Core.Path.{◌∙◌}
 use Prim.Native.Nat.{◌-◌, ◌^◌, ◌<◌}
 use native.Mathlib.Omega.{arith}
 use Rattle.middle.proofs.PlaceSum.{part_none, part_more, part_all, small_product}
+use Rattle.middle.proofs.places.product_place.Goals.{After-product-sum}
 use Rattle.middle.proofs.places.product_place.Goals as goal
 
 pub loop-j-init : goal.loop-j-init
 loop-j-init c = part_none _ c.first_meeting-j.ensures
 
 -- the term of a turn is small
-term_small : (c : goal.After-product-sum) → c.product-sum.result < 2 ^ 48
+term_small : (c : After-product-sum) → c.product-sum.result < 2 ^ 48
 term_small c =
     let j = c.loop-j.j in
     let inv = c.loop-j.invariant in

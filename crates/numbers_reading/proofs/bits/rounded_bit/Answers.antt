@@ -5,10 +5,11 @@ use native.Mathlib.Omega.{arith}
 use Rattle.sets.specs.Rules.{Rules}
 use Rattle.sets.proofs.Rules.{rules_of, byte_rules_of}
 use Rattle.numbers.proofs.BitLaws.{rounded_bit_bench, rounded_bit_threshold}
+use Rattle.numbers_reading.proofs.bits.rounded_bit.Goals.{Start}
 use Rattle.numbers_reading.proofs.bits.rounded_bit.Goals as goal
 
 -- the record keeps the rules of the set
-kept : (start : goal.Start) → Rules start.args.p
+kept : (start : Start) → Rules start.args.p
 kept start = rules_of start.args.set start.requires.0 _ start.requires.1
 
 pub half_modulus-h-requires : goal.half_modulus-h-requires
@@ -16,8 +17,7 @@ half_modulus-h-requires c = kept c
 
 pub floor_bit-requires : goal.floor_bit-requires
 floor_bit-requires c =
-    let rules = kept c.before.before in
-    let e = c.half_modulus-h.ensures in
+    let rules = kept (goal.at.floor_bit-requires c).Start in
     (omega (arith, rules.odd, rules.prime.above), omega (arith, rules.odd, rules.small), omega (arith, rules.small))
 
 pub returns-then-set-eq0 : goal.returns-then-set-eq0
@@ -27,14 +27,13 @@ returns-then-set-eq0 c =
 
 pub threshold_bit-requires : goal.threshold_bit-requires
 threshold_bit-requires c =
-    let rules = kept c.before.before in
-    let e = c.half_modulus-h.ensures in
+    let rules = kept (goal.at.threshold_bit-requires c).Start in
     (omega (arith, rules.odd, rules.small), omega (arith, rules.small))
 
 pub returns : goal.returns
 returns c =
     let other = c.if-set-eq0.false in
-    let rules = kept c.before.before.before in
+    let rules = kept (goal.at.returns c).Start in
     let even = (byte_rules_of c.args.set c.requires.0 _ c.requires.1 (omega arith)).even_half in
     c.threshold_bit.ensures
     ∙ rw c.half_modulus-h.ensures

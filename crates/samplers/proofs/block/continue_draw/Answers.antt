@@ -5,6 +5,7 @@ use Prim.Native.Nat.{◌-◌}
 use native.Mathlib.Omega.{arith}
 use Rattle.draws.specs.Uniform.{sample, refusal, refusal_of_value, sample_at}
 use Rattle.samplers.proofs.Continuing.{continuing_none, continuing_more, continuing_stop, continuing_run, continuing_all}
+use Rattle.samplers.proofs.block.continue_draw.Goals.{After-refusal_of}
 use Rattle.samplers.proofs.block.continue_draw.Goals as goal
 
 pub loop-done-init : goal.loop-done-init
@@ -14,7 +15,7 @@ pub draw_one-drawn-requires : goal.draw_one-drawn-requires
 draw_one-drawn-requires c = (c.requires.0, c.loop-done.invariant.less)
 
 -- the refusal of the result
-refused : (c : goal.After-refusal_of) →
+refused : (c : After-refusal_of) →
     let args = c.args in
     sample_at args.q args.threshold c.loop-done.run args.bytes.now c.loop-done.position ≡ refusal c.refusal_of.result
 refused c =
@@ -30,12 +31,11 @@ stopped_at-requires c = continuing_run c.loop-done.invariant (omega (arith, c.lo
 pub returns-in_default : goal.returns-in_default
 returns-in_default c =
     let inv = c.loop-done.invariant in
-    let stop = continuing_stop inv (omega (arith, inv.kept)) _ (refused c.before) in record { answer = c.stopped_at.ensures ∙ stop.0; result = stop.1 }
+    let stop = continuing_stop inv (omega (arith, inv.kept)) _ (refused (goal.at.returns-in_default c).After-refusal_of) in record { answer = c.stopped_at.ensures ∙ stop.0; result = stop.1 }
 
 pub loop-done-preserved : goal.loop-done-preserved
 loop-done-preserved c =
     let inv = c.loop-done.invariant in
-    let drawn = c.drawn-1.given in
     continuing_more inv (omega (arith, inv.kept)) c.in-Number.residue c.in-Number.next (sym c.draw_one-drawn.ensures ∙ ap sample c.in-Number.is)
 
 pub returns : goal.returns

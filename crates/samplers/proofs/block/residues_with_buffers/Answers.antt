@@ -14,39 +14,39 @@ loop-reached-init c = (refl, drawing_none _ _ _ _ _ (omega arith))
 pub source_bytes-counter-requires : goal.source_bytes-counter-requires
 source_bytes-counter-requires c =
     let pre = c.requires in
-    (pre.0.1, rw c.loop-reached.invariant.0 (drawing_fits c.loop-reached.invariant.1 pre.0.3 pre.1.1))
+    (pre.rules.1, rw c.loop-reached.invariant.0 (drawing_fits c.loop-reached.invariant.1 pre.rules.3 pre.out_nonzero.1))
 
 pub continue_draw-progress-requires : goal.continue_draw-progress-requires
 continue_draw-progress-requires c =
     let inv = c.loop-reached.invariant.1 in
     let pre = c.requires in
-    (omega (arith, pre.0.0.prime.above), search rules, omega (arith, inv.kept, inv.unfinished), inv.less)
+    (omega (arith, pre.rules.0.prime.above), search rules, omega (arith, inv.kept, inv.unfinished), inv.less)
 
 pub returns-in_default : goal.returns-in_default
 returns-in_default c =
     let told = ap standing c.in_default.is in
-    let number = c.refusal_of.ensures ∙ ap stopped_by told in let whole = drawing_refused c.loop-reached.invariant.1 _ _ (rw c.loop-reached.invariant.0 at c.source_bytes-counter.ensures.1)
-    (rw c.loop-reached.invariant.0 at c.source_bytes-counter.ensures.0) _ _ (ap stopped number ∙ sym told ∙ c.continue_draw-progress.ensures.0) in record { answer = whole.0; result = whole.1 }
+    let number = c.refusal_of.ensures ∙ ap stopped_by told in let whole = drawing_refused c.loop-reached.invariant.1 _ _ (rw c.loop-reached.invariant.0 at c.source_bytes-counter.ensures.bytes)
+    (rw c.loop-reached.invariant.0 at c.source_bytes-counter.ensures.state) _ _ (ap stopped number ∙ sym told ∙ c.continue_draw-progress.ensures.answer) in record { answer = whole.0; result = whole.1 }
 
 pub returns-then-reached-out : goal.returns-then-reached-out
 returns-then-reached-out c =
-    let whole = drawing_all c.loop-reached.invariant.1 _ _ (rw c.loop-reached.invariant.0 at c.source_bytes-counter.ensures.1)
-    (rw c.loop-reached.invariant.0 at c.source_bytes-counter.ensures.0) _ _ _ (search rules) c.if-reached-out.true
-    (sym (ap standing c.in-Reached.is) ∙ c.continue_draw-progress.ensures.0) c.continue_draw-progress.ensures.1 in record { answer = whole.0; result = whole.1 }
+    let whole = drawing_all c.loop-reached.invariant.1 _ _ (rw c.loop-reached.invariant.0 at c.source_bytes-counter.ensures.bytes)
+    (rw c.loop-reached.invariant.0 at c.source_bytes-counter.ensures.state) _ _ _ (search rules) c.if-reached-out.true
+    (sym (ap standing c.in-Reached.is) ∙ c.continue_draw-progress.ensures.answer) c.continue_draw-progress.ensures.result in record { answer = whole.0; result = whole.1 }
 
 pub loop-reached-smaller : goal.loop-reached-smaller
 loop-reached-smaller c =
     let rises =
-    drawing_rises c.loop-reached.invariant.1 _ _ (rw c.loop-reached.invariant.0 at c.source_bytes-counter.ensures.1)
-    (rw c.loop-reached.invariant.0 at c.source_bytes-counter.ensures.0) _ _ _ c.requires.0.2 (search rules) c.if-reached-out.false
-    (sym (ap standing c.in-Reached.is) ∙ c.continue_draw-progress.ensures.0) c.continue_draw-progress.ensures.1 in
+    drawing_rises c.loop-reached.invariant.1 _ _ (rw c.loop-reached.invariant.0 at c.source_bytes-counter.ensures.bytes)
+    (rw c.loop-reached.invariant.0 at c.source_bytes-counter.ensures.state) _ _ _ c.requires.rules.2 (search rules) c.if-reached-out.false
+    (sym (ap standing c.in-Reached.is) ∙ c.continue_draw-progress.ensures.answer) c.continue_draw-progress.ensures.result in
     omega (arith, rises, c.loop-reached.invariant.1.unfinished)
 
 pub loop-reached-preserved : goal.loop-reached-preserved
 loop-reached-preserved c =
     (
       search rules,
-      drawing_more c.loop-reached.invariant.1 _ _ (rw c.loop-reached.invariant.0 at c.source_bytes-counter.ensures.1)
-          (rw c.loop-reached.invariant.0 at c.source_bytes-counter.ensures.0) _ _ _ c.requires.0.2 (search rules) c.if-reached-out.false
-          (sym (ap standing c.in-Reached.is) ∙ c.continue_draw-progress.ensures.0) c.continue_draw-progress.ensures.1,
+      drawing_more c.loop-reached.invariant.1 _ _ (rw c.loop-reached.invariant.0 at c.source_bytes-counter.ensures.bytes)
+          (rw c.loop-reached.invariant.0 at c.source_bytes-counter.ensures.state) _ _ _ c.requires.rules.2 (search rules) c.if-reached-out.false
+          (sym (ap standing c.in-Reached.is) ∙ c.continue_draw-progress.ensures.answer) c.continue_draw-progress.ensures.result,
     )

@@ -13,4 +13,4 @@ source_bytes-requires c =
 pub returns : goal.returns
 unfolding multipliers_drawn
 returns c =
-    rw (c.source_bytes.ensures.1, c.requires.bytes_len.0) at c.fill_multipliers.ensures
+    rw (c.source_bytes.ensures.bytes, c.requires.bytes_len.0) at c.fill_multipliers.ensures

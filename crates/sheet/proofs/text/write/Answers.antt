@@ -8,6 +8,7 @@ use Rattle.sheet_parts.proofs.Laws.{input_empty, input_is, printed_as}
 use Rattle.sheet_rows.specs.Input.{rows_answer}
 use Rattle.sheet.specs.Sheet.{answer_text, rows_text}
 use Rattle.sheet.proofs.SheetLaws.{checked_text, unchecked_text}
+use Rattle.sheet.proofs.text.write.Goals.{In-Done}
 use Rattle.sheet.proofs.text.write.Goals as goal
 
 pub returns-then-input-lt1 : goal.returns-then-input-lt1
@@ -15,23 +16,23 @@ returns-then-input-lt1 c =
     let made = c.write_refused.ensures in
     let input = c.args.input.now in
     printed_as (unchecked_text input (input_empty input accepted c.if-input-lt1.true))
-    (record { count_is = made.0; short = made.1.1; text_is = made.1.0 })
+    (record { count_is = made.value; short = made.out_after.1; text_is = made.out_after.0 })
 
 -- the input passes its checks
-passed : (c : goal.In-Done) → input_answer c.args.input.now accepted ≡ accepted
+passed : (c : In-Done) → input_answer c.args.input.now accepted ≡ accepted
 passed c = sym c.checked-checked.ensures ∙ ap outcome c.in-Done.is
 
 pub write_checked-requires : goal.write_checked-requires
 write_checked-requires c =
     let byte = c.set_byte-set.ensures in
-    let is = input_is c.args.input.now accepted (passed c.before.before) in
+    let is = input_is c.args.input.now accepted (passed (goal.at.write_checked-requires c).In-Done) in
     (ap has_sheet_of byte ∙ is.1, is.2 ∙ sym (ap input_bytes_of byte), c.requires.0, c.requires.1, c.parameters_of-p.ensures)
 
 pub returns-in-Done : goal.returns-in-Done
 returns-in-Done c =
     let input = c.args.input.now in
     printed_as
-    (ap (λ (set : ℕ). answer_text (rows_answer set input) (rows_text set input)) c.set_byte-set.ensures ∙ checked_text input (passed c.before.before.before.before.before.before.before))
+    (ap (λ (set : ℕ). answer_text (rows_answer set input) (rows_text set input)) c.set_byte-set.ensures ∙ checked_text input (passed (goal.at.returns-in-Done c).In-Done))
     c.write_checked.ensures
 
 pub returns-in-Refused : goal.returns-in-Refused
@@ -40,4 +41,4 @@ returns-in-Refused c =
     printed_as
     (unchecked_text c.args.input.now
     (sym c.checked-checked.ensures ∙ ap outcome c.in-Refused.is))
-    (record { count_is = made.0; short = made.1.1; text_is = made.1.0 })
+    (record { count_is = made.value; short = made.out_after.1; text_is = made.out_after.0 })

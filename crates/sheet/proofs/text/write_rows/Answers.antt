@@ -15,9 +15,8 @@ pub write_accepted-requires : goal.write_accepted-requires
 write_accepted-requires c =
     let pre = c.requires in
     let made = c.fill-answer in
-    let rows = made.ensures.1 (ap outcome c.in-Done.is) in
+    let rows = made.ensures.rows (ap outcome c.in-Done.is) in
     let rules = rules_of c.args.set (sheet_set c.args.set pre.0) _ pre.7 in
-    let kept = made.kept.1.1.1 in
     let long = c.fill-answer.auto.noise ∙ pre.2 in (
       rules,
       record { sizes = rows.sizes; sent_length = c.fill-answer.auto.sent ∙ pre.3 ∙ sym long; read_length = c.fill-answer.auto.read ∙ pre.4 ∙ sym long },
@@ -29,12 +28,12 @@ pub returns-in-Done : goal.returns-in-Done
 returns-in-Done c =
     let made = c.fill-answer.ensures in
     let done = ap outcome c.in-Done.is in
-    printed_as (accepted_text c.args.set c.args.p c.args.input.now c.requires.7 made.0 done (made.1 done))
+    printed_as (accepted_text c.args.set c.args.p c.args.input.now c.requires.7 made.answer done (made.rows done))
     c.write_accepted.ensures
 
 pub returns-in-Refused : goal.returns-in-Refused
 returns-in-Refused c =
     let made = c.write_refused.ensures in
     printed_as
-    (refused_text_lem (rows_text c.args.set c.args.input.now) (sym c.fill-answer.ensures.0 ∙ ap outcome c.in-Refused.is))
-    (record { count_is = made.0; short = made.1.1; text_is = made.1.0 })
+    (refused_text_lem (rows_text c.args.set c.args.input.now) (sym c.fill-answer.ensures.answer ∙ ap outcome c.in-Refused.is))
+    (record { count_is = made.value; short = made.out_after.1; text_is = made.out_after.0 })

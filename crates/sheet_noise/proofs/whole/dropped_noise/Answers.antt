@@ -15,7 +15,7 @@ chopped-recovered-requires c = omega (arith, c.requires.0.kept, c.requires.0.wid
 
 pub subtract-requires : goal.subtract-requires
 subtract-requires c =
-    (omega (arith, chop_most c.args.p.cmp c.args, c.chopped-recovered.ensures, c.requires.2), c.requires.2, c.requires.0.small)
+    (omega (arith, chop_most c.args.p.cmp c.args.before, c.chopped-recovered.ensures, c.requires.2), c.requires.2, c.requires.0.small)
 
 pub centred-requires : goal.centred-requires
 centred-requires c =

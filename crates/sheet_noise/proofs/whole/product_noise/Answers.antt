@@ -9,6 +9,7 @@ use Rattle.sheet_noise.specs.Centred.{centred_product}
 use Rattle.sheet_noise.proofs.Sums.{summing_none, summing_more, summing_all, summing_small, Room, room, by_half, half_small, part_is, part_most}
 use Rattle.sheet_noise.proofs.Sums.{held_small}
 use borrow.Author.Rules.{rules}
+use Rattle.sheet_noise.proofs.whole.product_noise.Goals.{In-loop-i}
 use Rattle.sheet_noise.proofs.whole.product_noise.Goals as goal
 
 pub overflow_add-row : goal.overflow_add-row
@@ -21,7 +22,7 @@ pub loop-i-init : goal.loop-i-init
 loop-i-init c = summing_none _ _
 
 -- the places of one polynomial's numbers
-room_of : (c : goal.In-loop-i)
+room_of : (c : In-loop-i)
     → Room c.args.p c.loop-i.i
     c.args.j
 room_of c =

@@ -6,12 +6,13 @@ use Rattle.calls.proofs.Outcome.{accepted_refused}
 use Rattle.scheme.specs.Answers.{key_draws}
 use Rattle.scheme.proofs.Conditions.{listed_conditions}
 use Rattle.sheet_rows.proofs.SeededLaws.{three_steps}
+use Rattle.sheet_rows.proofs.seeded.read_message.Goals.{In-Done}
 use Rattle.sheet_rows.proofs.seeded.read_message.Goals as goal
 
 -- no draw was refused
-drawn : (c : goal.In-Done)
+drawn : (c : In-Done)
     → key_draws c.args.p c.args.seed.now ≡ accepted
-drawn c = sym c.keygen-answer.ensures.0 ∙ ap outcome c.in-Done.is
+drawn c = sym c.keygen-answer.ensures.answer ∙ ap outcome c.in-Done.is
 
 pub keygen-answer-requires : goal.keygen-answer-requires
 keygen-answer-requires c =
@@ -20,20 +21,18 @@ keygen-answer-requires c =
 
 pub returns-in_default : goal.returns-in_default
 returns-in_default c =
-    let answer = c.keygen-answer.ensures.0 in
+    let answer = c.keygen-answer.ensures.answer in
     let refused = ap outcome c.in_default.is in let whole = (answer, (λ a. absurd (accepted_refused a refused), λ a. absurd (accepted_refused a refused))) in record { answer = whole.0; key = whole.1; read = whole.2 }
 
 pub encrypt-requires : goal.encrypt-requires
 encrypt-requires c =
     let pre = c.requires in
-    let kept = c.keygen-answer.kept in
     (pre.0, pre.1, c.keygen-answer.auto.public_key ∙ pre.5, pre.3, pre.4, pre.7, c.keygen-answer.auto.work ∙ pre.9)
 
 pub decrypt-requires : goal.decrypt-requires
 decrypt-requires c =
     let pre = c.requires in
-    let first = c.keygen-answer.kept in
-    let second = c.encrypt.kept in (
+    (
       pre.0,
       pre.1,
       c.keygen-answer.auto.secret_seed ∙ pre.6,
@@ -47,5 +46,5 @@ returns c =
     let args = c.args in
     let first = c.keygen-answer.ensures in
     let left =
-    three_steps (listed_conditions args.p c.requires.0 c.requires.1) args.seed.now args.message.now args.sealing.now (drawn c.before.before.before.before.before.before.before.before.before.before.before.before.before.before) _ _ _ _
-    first.1.0 first.1.1 c.encrypt.ensures.1 c.decrypt.ensures.1 in let whole = (first.0, (λ _. left.0, λ _. left.1)) in record { answer = whole.0; key = whole.1; read = whole.2 }
+    three_steps (listed_conditions args.p c.requires.0 c.requires.1) args.seed.now args.message.now args.sealing.now (drawn (goal.at.returns c).In-Done) _ _ _ _
+    first.public.0 first.public.1 c.encrypt.ensures.sealed c.decrypt.ensures.read in let whole = (first.answer, (λ _. left.0, λ _. left.1)) in record { answer = whole.0; key = whole.1; read = whole.2 }

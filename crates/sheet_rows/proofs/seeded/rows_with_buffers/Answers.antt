@@ -6,15 +6,16 @@ use Rattle.calls.proofs.Outcome.{accepted_refused}
 use Rattle.scheme.specs.Answers.{key_draws}
 use Rattle.claim.proofs.Draws.{key_drawn}
 use Rattle.sheet_rows.proofs.SeededLaws.{rows_filled}
+use Rattle.sheet_rows.proofs.seeded.rows_with_buffers.Goals.{In-Done}
 use Rattle.sheet_rows.proofs.seeded.rows_with_buffers.Goals as goal
 
 -- no draw was refused
-drawn : (c : goal.In-Done) → key_draws c.args.p c.args.seed.now ≡ accepted
-drawn c = sym c.read_message-answer.ensures.0 ∙ ap outcome c.in-Done.is
+drawn : (c : In-Done) → key_draws c.args.p c.args.seed.now ≡ accepted
+drawn c = sym c.read_message-answer.ensures.answer ∙ ap outcome c.in-Done.is
 
 pub returns-in_default : goal.returns-in_default
 returns-in_default c =
-    record { answer = c.read_message-answer.ensures.0; rows = λ a. absurd (accepted_refused a (ap outcome c.in_default.is)) }
+    record { answer = c.read_message-answer.ensures.answer; rows = λ a. absurd (accepted_refused a (ap outcome c.in_default.is)) }
 
 pub noise_of-requires : goal.noise_of-requires
 noise_of-requires c =
@@ -25,8 +26,8 @@ noise_of-requires c =
       pre.2,
       pre.3,
       pre.4,
-      c.read_message-answer.ensures.1.0 done,
-      (key_drawn c.args.p c.args.seed.now (drawn c.before.before)).0,
+      c.read_message-answer.ensures.key.0 done,
+      (key_drawn c.args.p c.args.seed.now (drawn (goal.at.noise_of-requires c).In-Done)).0,
       pre.9,
       c.read_message-answer.auto.work ∙ pre.12,
     )
@@ -35,6 +36,6 @@ pub returns : goal.returns
 returns c =
     let args = c.args in
     let pre = c.requires in
-    let opened = c.read_message-answer.ensures.1.1 (ap outcome c.in-Done.is) in
-    let values = c.noise_of.ensures in record { answer = c.read_message-answer.ensures.0; rows = λ _. rows_filled args.p args.seed.now args.message.now args.sealing.now _ _ _ _ _ _
+    let opened = c.read_message-answer.ensures.key.1 (ap outcome c.in-Done.is) in
+    let values = c.noise_of.ensures in record { answer = c.read_message-answer.ensures.answer; rows = λ _. rows_filled args.p args.seed.now args.message.now args.sealing.now _ _ _ _ _ _
           values.values values.sizes c.bits_of.ensures pre.10 c.bits_of-2.ensures pre.11 opened }

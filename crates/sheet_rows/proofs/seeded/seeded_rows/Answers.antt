@@ -7,37 +7,38 @@ use borrow.Author.Rules.{rules}
 use Rattle.sets.specs.Rules.{Rules}
 use Rattle.sets.proofs.Rules.{listed_rules}
 use Rattle.calls.proofs.Parts.{array_front}
+use Rattle.sheet_rows.proofs.seeded.seeded_rows.Goals.{After-cpa_ciphertext_bytes-ciphertext_size, After-slice_known-3-1}
 use Rattle.sheet_rows.proofs.seeded.seeded_rows.Goals as goal
 
 -- the set's numbers keep the rules
-kept : (c : goal.After-slice_known-3-1) → Rules c.args.p
+kept : (c : After-slice_known-3-1) → Rules c.args.p
 kept c = listed_rules c.args.p c.requires.1
 
 pub public_key_bytes-key_size-requires : goal.public_key_bytes-key_size-requires
 public_key_bytes-key_size-requires c = kept c
 
 pub cpa_ciphertext_bytes-ciphertext_size-requires : goal.cpa_ciphertext_bytes-ciphertext_size-requires
-cpa_ciphertext_bytes-ciphertext_size-requires c = kept c.before
+cpa_ciphertext_bytes-ciphertext_size-requires c = kept (goal.at.cpa_ciphertext_bytes-ciphertext_size-requires c).After-slice_known-3-1
 
 -- the public key and the ciphertext fit
-public_fits : (c : goal.After-cpa_ciphertext_bytes-ciphertext_size) → c.public_key_bytes-key_size.result ≤ 26912
-public_fits c = omega (arith, c.public_key_bytes-key_size.ensures, (kept c.before.before).most_public_key)
+public_fits : (c : After-cpa_ciphertext_bytes-ciphertext_size) → c.public_key_bytes-key_size.result ≤ 26912
+public_fits c = omega (arith, c.public_key_bytes-key_size.ensures, (kept (goal.at.After-cpa_ciphertext_bytes-ciphertext_size c).After-slice_known-3-1).most_public_key)
 
-ciphertext_fits : (c : goal.After-cpa_ciphertext_bytes-ciphertext_size) → c.cpa_ciphertext_bytes-ciphertext_size.result ≤ 8320
-ciphertext_fits c = omega (arith, c.cpa_ciphertext_bytes-ciphertext_size.ensures, (kept c.before.before).most_sealed)
+ciphertext_fits : (c : After-cpa_ciphertext_bytes-ciphertext_size) → c.cpa_ciphertext_bytes-ciphertext_size.result ≤ 8320
+ciphertext_fits c = omega (arith, c.cpa_ciphertext_bytes-ciphertext_size.ensures, (kept (goal.at.After-cpa_ciphertext_bytes-ciphertext_size c).After-slice_known-3-1).most_sealed)
 
 pub slice_bounds-public-end : goal.slice_bounds-public-end
 slice_bounds-public-end c = omega (arith, public_fits c)
 
 pub slice_bounds-ciphertext-end : goal.slice_bounds-ciphertext-end
-slice_bounds-ciphertext-end c = omega (arith, ciphertext_fits c.before.before)
+slice_bounds-ciphertext-end c = omega (arith, ciphertext_fits (goal.at.slice_bounds-ciphertext-end c).After-cpa_ciphertext_bytes-ciphertext_size)
 
 pub rows_with_buffers-requires : goal.rows_with_buffers-requires
 rows_with_buffers-requires c =
     let pre = c.requires in
     let key = c.public_key_bytes-key_size in
-    let public = array_front 26912 key.result (public_fits c.before.before.before.before.before.before.before.before) ∙ key.ensures in
+    let public = array_front 26912 key.result (public_fits (goal.at.rows_with_buffers-requires c).After-cpa_ciphertext_bytes-ciphertext_size) ∙ key.ensures in
     let sent = c.cpa_ciphertext_bytes-ciphertext_size in
-    let ciphertext = array_front 8320 sent.result (ciphertext_fits c.before.before.before.before.before.before.before.before) ∙ sent.ensures in
+    let ciphertext = array_front 8320 sent.result (ciphertext_fits (goal.at.rows_with_buffers-requires c).After-cpa_ciphertext_bytes-ciphertext_size) ∙ sent.ensures in
     let seed = array_front 32 32 (omega arith) in
     (pre.0, pre.1, pre.2, pre.3, pre.4, public, seed, ciphertext, seed, pre.5, pre.6, pre.7, pre.8)
