@@ -216,7 +216,9 @@ def inline_aliases(text, aliases):
 
 
 def strip_before(text):
-    text = re.sub(r"(?<!args)(?:\.before)+(?![\w-])", "", text)
+    args = {m.group(1) for m in re.finditer(r"let (" + IDENT + r") = [^\s]+\.args in", text)} | {"args"}
+    text = re.sub(r"(?<![\w.'₀-₉-])(" + IDENT + r")((?:\.before)+)(?![\w-])", lambda m: m.group(0) if m.group(1) in args else m.group(1), text)
+    text = re.sub(r"\)(?:\.before)+(?![\w-])", ")", text)
     text = re.sub(r"(?<![\w-])not[-_](?:true|false) _ (c\.[^\s(),]+)", r"\1", text)
     prev = None
     while prev != text:
@@ -324,6 +326,11 @@ def clause_record(body, names):
     # a tuple that opens behind `in (`
     lets, last = body[:lets_end], body[lets_end:].strip()
     parts = split_tuple(last)
+    while parts and len(parts) < len(names):
+        more = split_tuple(parts[-1])
+        if not more:
+            break
+        parts = parts[:-1] + more
     if parts and len(parts) == len(names):
         inner = "; ".join(f"{n} = {p}" for n, p in zip(names, parts))
         return f"{lets} record {{ {inner} }}"
@@ -389,7 +396,8 @@ def turn(f, folder):
             if "tie." in body:
                 f.said.append("module: tie. is left")
             continue
-        body = inline_aliases(body, aliases)
+        if not re.match(r"(invariant|decreases)-", name):
+            body = inline_aliases(body, aliases)
         body = strip_before(body)
         sig = re.search(r"^(?:abbrev )?(?:pub )?" + re.escape(name) + r" :\s*tie\.(\S+)(.*)$", body, re.M)
         if sig and re.match(r"(invariant|decreases)-", sig.group(1)):
@@ -404,9 +412,8 @@ def turn(f, folder):
             want = [("l.initial." if c else "l.") + v for v, c in zip(vs, ch)] + ["l." + v for v, c in zip(vs, ch) if c]
             if len(params) != len(want):
                 f.said.append(f"{name}: {len(params)} parameters, {len(want)} variables: {vs} {ch}")
-            for p, w in zip(params, want):
-                rhs = re.sub(r"(?<![\w.'₀-₉-])" + re.escape(p) + r"(?![\w'₀-₉-])", w.replace("l.", "l\0.", 1), rhs)
-            rhs = rhs.replace("l\0.", "l.")
+            to = dict(zip(params, want))
+            rhs = re.sub(r"(?<![\w.'₀-₉-])(" + "|".join(sorted(map(re.escape, params), key=len, reverse=True)) + r")(?![\w'₀-₉-])", lambda m: to[m.group(1)], rhs)
             unf = "".join(l + "\n" for l in body.split("\n") if l.startswith("unfolding"))
             comments = "".join(l + "\n" for l in body.split("\n") if l.startswith("--"))
             inv.append(f"{comments}abbrev pub {kind}-{new} : goal.{kind}-{new}\n{unf}{kind}-{new} l ={rhs.rstrip()}")

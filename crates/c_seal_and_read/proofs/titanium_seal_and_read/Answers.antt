@@ -12,4 +12,4 @@ returns c =
     let public = rw made.answer at made.given.0 in
     let secret = rw made.answer at made.given.1.0 in
     let sealed = rw made.answer at made.given.1.1.0 in
-    let read = rw made.answer at made.given.1.1.1.0 in let whole = (c.code.ensures ∙ ap coded made.answer, (public, (secret, (sealed, (read, made.given.1.1.1.1.0))))) in record { answer = whole.0; given = whole.1; kept = whole.2; sent = whole.3; opened = whole.4; cleared = whole.5 }
+    let read = rw made.answer at made.given.1.1.1.0 in record { answer = c.code.ensures ∙ ap coded made.answer; given = public; kept = secret; sent = sealed; opened = read; cleared = made.given.1.1.1.1.0 }

@@ -13,4 +13,4 @@ returns c =
     let secret = rw made.answer at made.given.1.0 in
     let sealed = rw made.answer at made.given.1.1.0 in
     let sent = rw made.answer at made.given.1.1.1.0 in
-    let received = rw made.answer at made.given.1.1.1.1.0 in let whole = (c.code.ensures ∙ ap coded made.answer, (public, (secret, (sealed, (sent, (received, made.given.1.1.1.1.1.0)))))) in record { answer = whole.0; given = whole.1; kept = whole.2; closed = whole.3; agreed = whole.4; opened = whole.5; cleared = whole.6 }
+    let received = rw made.answer at made.given.1.1.1.1.0 in record { answer = c.code.ensures ∙ ap coded made.answer; given = public; kept = secret; closed = sealed; agreed = sent; opened = received; cleared = made.given.1.1.1.1.1.0 }

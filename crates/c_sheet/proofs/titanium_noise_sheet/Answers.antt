@@ -4,4 +4,4 @@ use Rattle.c_sheet.proofs.titanium_noise_sheet.Goals as goal
 
 pub returns : goal.returns
 returns c =
-    let made = c.sheet.ensures in let whole = (made.count, (made.short.1.0, made.short.1.1.0)) in record { count = whole.0; printed = whole.1; cleared = whole.2 }
+    let made = c.sheet.ensures in record { count = made.count; printed = made.short.1.0; cleared = made.short.1.1.0 }

@@ -55,7 +55,7 @@ copy_at-requires c =
 pub returns-in_default : goal.returns-in_default
 returns-in_default c =
     let told = ap outcome c.in_default.is in
-    let decided = draws_decide c.args.p c.args.seed.now _ _ (first_is (goal.at.returns-in_default c).After-source_bytes) (second_is (goal.at.returns-in_default c).After-source_bytes) c.store_key-stored.ensures.answer ∙ told in let whole = (told ∙ sym decided, (sym (leaves_refused _ _ decided), sym (leaves_refused _ _ decided))) in record { answer = whole.0; public = whole.1; secret = whole.2 }
+    let decided = draws_decide c.args.p c.args.seed.now _ _ (first_is (goal.at.returns-in_default c).After-source_bytes) (second_is (goal.at.returns-in_default c).After-source_bytes) c.store_key-stored.ensures.answer ∙ told in record { answer = told ∙ sym decided; public = sym (leaves_refused _ _ decided); secret = sym (leaves_refused _ _ decided) }
 
 pub returns : goal.returns
 returns c =
@@ -63,15 +63,9 @@ returns c =
     let p = c.args.p in
     let seed = c.args.seed.now in
     let accepted-key = ap outcome c.in-Done.is in
-    let decided = draws_decide p seed _ _ (first_is (goal.at.returns c).After-source_bytes) (second_is (goal.at.returns c).After-source_bytes) vectors.ensures.answer ∙ accepted-key in let whole = (
-      sym decided,
-      (
-        c.write_public_key.ensures
+    let decided = draws_decide p seed _ _ (first_is (goal.at.returns c).After-source_bytes) (second_is (goal.at.returns c).After-source_bytes) vectors.ensures.answer ∙ accepted-key in record { answer = sym decided; public = c.write_public_key.ensures
             ∙ key_made p seed _ _ (first_is (goal.at.returns c).After-source_bytes) (second_is (goal.at.returns c).After-source_bytes) _ (vectors.ensures.result accepted-key)
-            ∙ sym (leaves_accepted _ _ decided),
-        c.copy_at.ensures
+            ∙ sym (leaves_accepted _ _ decided); secret = c.copy_at.ensures
             ∙ over_whole _ _ (secret_size (goal.at.returns c).After-source_bytes-next ∙ sym c.requires.4)
             ∙ first_is (goal.at.returns c).After-source_bytes
-            ∙ sym (leaves_accepted _ _ decided),
-      ),
-    ) in record { answer = whole.0; public = whole.1; secret = whole.2 }
+            ∙ sym (leaves_accepted _ _ decided) }

@@ -31,7 +31,7 @@ bounds-tables-rows c =
 pub scaled-requires : goal.scaled-requires
 scaled-requires c =
     let below = place_below (goal.at.scaled-requires c).In-loop-i in
-    (c.requires.0, rw (c.loop-i.invariant.filled _ below) (c.requires.5.each _ below))
+    (c.requires.0, rw (c.loop-i.invariant.filled.before _ below) (c.requires.5.each _ below))
 
 pub loop-i-preserved : goal.loop-i-preserved
 loop-i-preserved c =
@@ -41,7 +41,7 @@ loop-i-preserved c =
     record {
       within = omega arith;
       filled = filled_more turn.invariant.filled refl (omega (arith, c.requires, turn.invariant.filled.size))
-          (c.scaled.ensures.0 ∙ turn.invariant.filled _ below) c.scaled.ensures.1;
+          (c.scaled.ensures.0 ∙ turn.invariant.filled.before _ below) c.scaled.ensures.1;
     }
 
 pub returns : goal.returns

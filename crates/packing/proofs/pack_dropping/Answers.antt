@@ -11,6 +11,7 @@ use Rattle.packing.specs.Dropped.{pack_dropping_of}
 use Rattle.packing.proofs.Dropped.{pack_dropping_at, pack_dropping_length}
 use Rattle.packing.proofs.Position.{position_given, position_next, numbers_passed}
 use Rattle.packing.proofs.Words.{begun_length, begun_filled}
+use Rattle.packing.proofs.pack_dropping.Goals.{then-bit-kept, else-bit-kept}
 use Rattle.packing.proofs.pack_dropping.Goals as goal
 
 pub loop-j-init : goal.loop-j-init
@@ -33,8 +34,9 @@ loop-j-preserved c =
     let now = c.loop-j in
     let p = now.invariant.0 in
     let more : now.j < length c.pack_words-j.new.out = omega arith in (
-      ⊎_elim (λ w. position_next 1 p (omega arith) (omega arith) (omega arith)) (λ w. position_next 0 p (omega arith) (omega arith) (omega arith))
-          c.if-bit-kept.branch,
+      elim c.if-bit-kept.branch
+      [ then-bit-kept w ↦ position_next 1 p (omega arith) (omega arith) (omega arith)
+      | else-bit-kept w ↦ position_next 0 p (omega arith) (omega arith) (omega arith) ],
       filled_more 0 now.invariant.1 more (omega arith)
           (c.byte_of.ensures
           ∙ sym (pack_dropping_at a.width a.cmp _ now.i now.bit now.j a.numbers.now c.requires.widths c.requires.digit p more)),

@@ -17,4 +17,4 @@ returns c =
     let fits = sheet_length c.args.noise.now c.args.sent.now c.args.read.now c.requires.0.sizes
     (λ k. (c.shared_slice_known-1.given k).fits)
     (λ k. (c.shared_slice_known-2-1.given k).fits) c.args.ceiling c.args.half
-    c.requires.1 c.ranges.ceiling.fits c.ranges.half.fits in let whole = (omega (arith, written.after), (written.written, omega (arith, written.after))) in record { value = whole.0; out_after = whole.1; upper_bound = whole.2 }
+    c.requires.1 c.ranges.ceiling.fits c.ranges.half.fits in record { value = omega (arith, written.after); out_after = written.written; upper_bound = omega (arith, written.after) }

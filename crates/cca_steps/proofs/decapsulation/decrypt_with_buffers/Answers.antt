@@ -21,4 +21,4 @@ returns c =
     let seeds = c.expand_seed.ensures in
     let decrypted = c.decrypt.ensures in
     let made = read_made args.p args.secret.now ct _ _ args.message.now (length ct - 32 - 0) _ seeds.secret size
-    decrypted.answer decrypted.read in let whole = (made.0, (seeds.halves, made.1)) in record { answer = whole.0; halves = whole.1; read = whole.2 }
+    decrypted.answer decrypted.read in record { answer = made.0; halves = seeds.halves; read = made.1 }

@@ -9,7 +9,7 @@ use Rattle.cca_steps.proofs.encapsulation.encapsulated_key.Goals as goal
 pub returns-in_default : goal.returns-in_default
 returns-in_default c =
     let made = c.encapsulate-answer.ensures in
-    let told = ap outcome c.in_default.is in let whole = (made.answer, (made.given, sym (leaves_refused _ _ (sym made.answer ∙ told)))) in record { answer = whole.0; given = whole.1; agreed = whole.2 }
+    let told = ap outcome c.in_default.is in record { answer = made.answer; given = made.given; agreed = sym (leaves_refused _ _ (sym made.answer ∙ told)) }
 
 pub returns : goal.returns
 returns c =
@@ -18,4 +18,4 @@ returns c =
     let decided = sym made.answer ∙ ap outcome c.in-Done.is in
     let hashed = c.shared_key_of.ensures in
     let p = args.p in
-    let shared = shared_made p args.public.now args.message.now _ args.ciphertext.now _ args.shared.now decided made.given hashed in let whole = (made.answer, (made.given, shared)) in record { answer = whole.0; given = whole.1; agreed = whole.2 }
+    let shared = shared_made p args.public.now args.message.now _ args.ciphertext.now _ args.shared.now decided made.given hashed in record { answer = made.answer; given = made.given; agreed = shared }

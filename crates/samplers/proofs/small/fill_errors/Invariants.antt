@@ -6,13 +6,13 @@ use Rattle.samplers.proofs.Rows.{Rows}
 use Rattle.samplers.proofs.small.fill_errors.Given as goal
 
 abbrev pub invariant-loop-i : goal.invariant-loop-i
-invariant-loop-i l = Rows l.p l.bytes l.initial.i l.out l.end
+invariant-loop-i l = Rows l.p l.bytes l.r l.i l.out
 
 abbrev pub decreases-loop-i : goal.decreases-loop-i
-decreases-loop-i l = l.r - l.out
+decreases-loop-i l = l.end - l.i
 
 abbrev pub invariant-loop-r : goal.invariant-loop-r
-invariant-loop-r l = Rows l.p l.bytes l.i l.out l.initial.r × (l.out ≡ l.i * (l.p.d + l.p.k))
+invariant-loop-r l = Rows l.p l.bytes l.r l.i l.out × (l.i ≡ l.r * (l.p.d + l.p.k))
 
 abbrev pub decreases-loop-r : goal.decreases-loop-r
-decreases-loop-r l = l.p.t - l.i
+decreases-loop-r l = l.p.t - l.r

@@ -6,7 +6,7 @@ use Rattle.sheet_noise.proofs.Sums.{Summing}
 use Rattle.sheet_noise.proofs.whole.correlation_at.Given as goal
 
 abbrev pub invariant-loop-l : goal.invariant-loop-l
-invariant-loop-l l = Summing (centred_term l.l.half l.l.multipliers l.l.first l.l.errors l.l.place) l.l.count l.l l.l.sum
+invariant-loop-l l = Summing (centred_term l.half l.multipliers l.first l.errors l.place) l.count l.l l.sum
 
 abbrev pub decreases-loop-l : goal.decreases-loop-l
-decreases-loop-l l = l.l.count - l.l
+decreases-loop-l l = l.count - l.l

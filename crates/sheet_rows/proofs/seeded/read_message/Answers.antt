@@ -22,7 +22,7 @@ keygen-answer-requires c =
 pub returns-in_default : goal.returns-in_default
 returns-in_default c =
     let answer = c.keygen-answer.ensures.answer in
-    let refused = ap outcome c.in_default.is in let whole = (answer, (λ a. absurd (accepted_refused a refused), λ a. absurd (accepted_refused a refused))) in record { answer = whole.0; key = whole.1; read = whole.2 }
+    let refused = ap outcome c.in_default.is in record { answer = answer; key = λ a. absurd (accepted_refused a refused); read = λ a. absurd (accepted_refused a refused) }
 
 pub encrypt-requires : goal.encrypt-requires
 encrypt-requires c =
@@ -47,4 +47,4 @@ returns c =
     let first = c.keygen-answer.ensures in
     let left =
     three_steps (listed_conditions args.p c.requires.0 c.requires.1) args.seed.now args.message.now args.sealing.now (drawn (goal.at.returns c).In-Done) _ _ _ _
-    first.public.0 first.public.1 c.encrypt.ensures.sealed c.decrypt.ensures.read in let whole = (first.answer, (λ _. left.0, λ _. left.1)) in record { answer = whole.0; key = whole.1; read = whole.2 }
+    first.public.0 first.public.1 c.encrypt.ensures.sealed c.decrypt.ensures.read in record { answer = first.answer; key = λ _. left.0; read = λ _. left.1 }

@@ -7,7 +7,7 @@ use Rattle.sponge.proofs.lanes.mix_row.Goals as goal
 
 pub returns : goal.returns
 returns c =
-    let a = c.args.t1 in
+    let a = c.args.a in
     λ i.
     (at a 0 ⊕ c.lane_of.ensures i)
     ∷ (at a 1 ⊕ c.lane_of-2.ensures i)
