@@ -334,6 +334,8 @@ def clause_record(body, names):
     if parts and len(parts) == len(names):
         inner = "; ".join(f"{n} = {p}" for n, p in zip(names, parts))
         return f"{lets} record {{ {inner} }}"
+    if last.startswith("search"):
+        return body
     inner = "; ".join(f"{n} = whole.{i}" for i, n in enumerate(names))
     return f"{lets} let whole = {last} in record {{ {inner} }}"
 

@@ -8,4 +8,4 @@ use Rattle.byte_source.proofs.source_bytes.Goals as goal
 pub returns : goal.returns
 unfolding output bytes_of
 returns c =
-    let whole = search rules in record { state = whole.0; bytes = whole.1 }
+    search rules

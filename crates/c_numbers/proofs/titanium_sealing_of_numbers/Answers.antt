@@ -6,4 +6,4 @@ use Rattle.c_numbers.proofs.titanium_sealing_of_numbers.Goals as goal
 
 pub returns : goal.returns
 returns c =
-    let made = c.sealing.ensures in let whole = (c.code.ensures ∙ ap coded made.answer, made.first) in record { answer = whole.0; first = whole.1; second = whole.2 }
+    let made = c.sealing.ensures in record { answer = c.code.ensures ∙ ap coded made.answer; first = made.first; second = made.second }

@@ -47,6 +47,6 @@ returns c =
     let i = c.args.i in
     let made = rw c.rows_of.ensures at c.fill_tables.ensures in
     record {
-      lent = made.0;
-      root = made.1 _ (root_ordered p c.requires.0 i (front_region _ _ _ (long (goal.at.returns c).After-load_powers) ∙ c.load_powers.ensures));
+      lent = made.lent;
+      root = made.tables _ (root_ordered p c.requires.0 i (front_region _ _ _ (long (goal.at.returns c).After-load_powers) ∙ c.load_powers.ensures));
     }
