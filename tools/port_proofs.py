@@ -38,6 +38,19 @@ def clause_names():
     return out
 
 
+def by_clause(names, rest):
+    """Positions in nested pairs, one for each clause, as the clause's name."""
+    n, i, at = len(names), 0, 0
+    if n < 2 or not rest or not rest[0].isdigit():
+        return rest
+    while i < len(rest) and rest[i] == "1" and at + 1 < n - 1 and i + 1 < len(rest) and rest[i + 1] in "01":
+        at += 1
+        i += 1
+    if i < len(rest) and rest[i].isdigit() and at + int(rest[i]) < n:
+        return [names[at + int(rest[i])]] + rest[i + 1:]
+    return rest
+
+
 class Function:
     def __init__(self, crate, path, data, clauses):
         self.crate, self.path, self.d, self.clauses = crate, path, data, clauses
@@ -103,9 +116,7 @@ class Function:
             if got:
                 return [got[0], got[1]] + rest[n:]
         if head == "requires":
-            names = self.clauses.get(self.me, ([], []))[0]
-            if len(names) > 1 and rest and rest[0].isdigit() and int(rest[0]) < len(names):
-                rest[0] = names[int(rest[0])]
+            rest = by_clause(self.clauses.get(self.me, ([], []))[0], rest)
             return [head] + rest
         new = self.step.get(k)
         if new is None:
@@ -123,9 +134,7 @@ class Function:
                     if ones < len(params):
                         rest = [{"kept": "auto", "last": "new"}.get(rest[0], rest[0]), params[ones]] + rest[2 + ones:]
             elif rest[0] == "ensures" and len(rest) > 1 and rest[1].isdigit():
-                names = self.clauses.get(callee, ([], []))[1]
-                if len(names) > 1 and int(rest[1]) < len(names):
-                    rest[1] = names[int(rest[1])]
+                rest = [rest[0]] + by_clause(self.clauses.get(callee, ([], []))[1], rest[1:])
         if rest and rest[0] == "inv":
             rest[0] = "invariant"
         if rest and (new.startswith("if-") or new.endswith("-test")):
@@ -336,6 +345,25 @@ def clause_record(body, names):
         return f"{lets} record {{ {inner} }}"
     if last.startswith("search"):
         return body
+    m = re.match(r"(rw (?:\(|\S))", last)
+    if m:
+        j = 3
+        j = balanced(last, j) if last[3] == "(" else re.compile(r"\S+").match(last, 3).end()
+        first, then = last[:j], last[j:].strip()
+        if then.startswith("at "):
+            inner = "; ".join(f"{n} = whole.{n}" for n in names)
+            return f"{lets} let whole = {last} in record {{ {inner} }}"
+        parts = split_tuple(then)
+        while parts and len(parts) < len(names) and split_tuple(parts[-1]):
+            parts = parts[:-1] + split_tuple(parts[-1])
+        if parts and len(parts) == len(names):
+            inner = "; ".join(f"{n} = {p}" for n, p in zip(names, parts))
+            return f"{lets} {first} (record {{ {inner} }})"
+        if then.startswith("(search"):
+            return body
+        then = then[1:-1] if then.startswith("(") and then.endswith(")") else then
+        inner = "; ".join(f"{n} = whole.{i}" for i, n in enumerate(names))
+        return f"{lets} {first} (let whole = {then} in record {{ {inner} }})"
     inner = "; ".join(f"{n} = whole.{i}" for i, n in enumerate(names))
     return f"{lets} let whole = {last} in record {{ {inner} }}"
 

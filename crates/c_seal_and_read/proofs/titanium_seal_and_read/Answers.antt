@@ -9,7 +9,7 @@ pub returns : goal.returns
 unfolding seal_and_read_public seal_and_read_secret seal_and_read_ciphertext seal_and_read_message
 returns c =
     let made = c.seal_and_read.ensures in
-    let public = rw made.answer at made.given.0 in
-    let secret = rw made.answer at made.given.1.0 in
-    let sealed = rw made.answer at made.given.1.1.0 in
-    let read = rw made.answer at made.given.1.1.1.0 in record { answer = c.code.ensures ∙ ap coded made.answer; given = public; kept = secret; sent = sealed; opened = read; cleared = made.given.1.1.1.1.0 }
+    let public = rw made.answer at made.given in
+    let secret = rw made.answer at made.kept in
+    let sealed = rw made.answer at made.sent in
+    let read = rw made.answer at made.opened in record { answer = c.code.ensures ∙ ap coded made.answer; given = public; kept = secret; sent = sealed; opened = read; cleared = made.cleared }

@@ -9,8 +9,8 @@ pub returns : goal.returns
 unfolding share_aKey_public share_aKey_secret share_aKey_ciphertext share_aKey_sent share_aKey_received
 returns c =
     let made = c.share_a_key.ensures in
-    let public = rw made.answer at made.given.0 in
-    let secret = rw made.answer at made.given.1.0 in
-    let sealed = rw made.answer at made.given.1.1.0 in
-    let sent = rw made.answer at made.given.1.1.1.0 in
-    let received = rw made.answer at made.given.1.1.1.1.0 in record { answer = c.code.ensures ∙ ap coded made.answer; given = public; kept = secret; closed = sealed; agreed = sent; opened = received; cleared = made.given.1.1.1.1.1.0 }
+    let public = rw made.answer at made.given in
+    let secret = rw made.answer at made.kept in
+    let sealed = rw made.answer at made.closed in
+    let sent = rw made.answer at made.agreed in
+    let received = rw made.answer at made.opened in record { answer = c.code.ensures ∙ ap coded made.answer; given = public; kept = secret; closed = sealed; agreed = sent; opened = received; cleared = made.cleared }

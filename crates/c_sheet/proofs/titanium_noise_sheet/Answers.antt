@@ -4,4 +4,4 @@ use Rattle.c_sheet.proofs.titanium_noise_sheet.Goals as goal
 
 pub returns : goal.returns
 returns c =
-    let made = c.sheet.ensures in record { count = made.count; printed = made.short.1.0; cleared = made.short.1.1.0 }
+    let made = c.sheet.ensures in record { count = made.count; printed = made.printed; cleared = made.cleared }

@@ -33,10 +33,7 @@ residues_from-drawn-requires c =
     let p = c.args.p in
     let kept = listed_rules p c.requires.1 in
     let bytes = c.requires.0 in
-    let room = rw (← c.requires.5) at (secret_room p) in let whole = rw (front_length c.args.work.now p.d3 room) (
-      (kept, omega (arith, c.requires.2), bytes.some_bytpcs, bytes.most_bytpcs),
-      (omega (arith, kept.holds3, kept.some_n, kept.some_d, kept.some_k), omega (arith, kept.most_d3)),
-    ) in record { rules = whole.0; out_nonzero = whole.1 }
+    let room = rw (← c.requires.5) at (secret_room p) in rw (front_length c.args.work.now p.d3 room) (record { rules = (kept, omega (arith, c.requires.2), bytes.some_bytpcs, bytes.most_bytpcs); out_nonzero = (omega (arith, kept.holds3, kept.some_n, kept.some_d, kept.some_k), omega (arith, kept.most_d3)) })
 
 -- after the draw: the secret's seed, the set's parameters, the work slice before, and what the left at its front
 module _ (c : After-residues_from-drawn) where

@@ -45,7 +45,7 @@ copy_out-requires c =
     let pre = c.requires in
     omega (
       arith,
-      c.correlate.auto.1,
+      c.correlate.auto,
       c.load_reversed.auto.x,
       pre.1.fit,
       pre.1.some,

@@ -23,7 +23,7 @@ lengths_checked-lengths-requires c = ap (λ (p : Parameters). p.d3) c.parameters
 pub returns-in_default : goal.returns-in_default
 returns-in_default c =
     let args = c.args in let whole = refused_early args.set args.a.now args.b.now args.out.now args.work.now
-    c.lengths_checked-lengths.ensures (ap outcome c.in_default.is) in record { answer = whole.0; left = whole.1; cleared = whole.2 }
+    c.lengths_checked-lengths.ensures (ap outcome c.in_default.is) in record { answer = whole.0; left = whole.1.0; cleared = whole.1.1 }
 
 pub checked-answer-requires : goal.checked-answer-requires
 checked-answer-requires c =
@@ -39,4 +39,4 @@ returns c =
     let args = c.args in
     let made = c.checked-answer in
     let left = rw c.parameters_of-p.ensures at made.ensures in let whole = numbers_decide args.set args.a.now args.b.now args.out.now args.work.now (passed (goal.at.returns c).In-Done)
-    left.0 left.1 c.clear.ensures made.auto.work in record { answer = whole.0; left = whole.1; cleared = whole.2 }
+    left.answer left.left c.clear.ensures made.auto.work in record { answer = whole.0; left = whole.1.0; cleared = whole.1.1 }

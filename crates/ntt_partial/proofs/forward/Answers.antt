@@ -40,7 +40,7 @@ number c =
 pub returns-in_default : goal.returns-in_default
 unfolding partial_left
 returns-in_default c =
-    let told = ap outcome c.in_default.is in let whole = rw told (refused_call _ _ (sym c.checked-answer.ensures ∙ told)) in record { answer = whole.0; left = whole.1 }
+    let told = ap outcome c.in_default.is in rw told (let whole = refused_call _ _ (sym c.checked-answer.ensures ∙ told) in record { answer = whole.0; left = whole.1 })
 
 pub size_number-i-requires : goal.size_number-i-requires
 size_number-i-requires c =

@@ -6,8 +6,8 @@ use Rattle.samplers.proofs.residues_from.Goals as goal
 
 pub residues_with_buffers-requires : goal.residues_with_buffers-requires
 residues_with_buffers-requires c =
-    let whole = rw (array_front 10158 c.args.size c.requires.rules.3) (search rules) in record { rules = whole.0; out_nonzero = whole.1 }
+    rw (array_front 10158 c.args.size c.requires.rules.3) (search rules)
 
 pub returns : goal.returns
 returns c =
-    let whole = rw (array_front 10158 c.args.size c.requires.rules.3) at c.residues_with_buffers.ensures in record { answer = whole.0; result = whole.1 }
+    let whole = rw (array_front 10158 c.args.size c.requires.rules.3) at c.residues_with_buffers.ensures in record { answer = whole.answer; result = whole.result }

@@ -12,4 +12,4 @@ returns c =
     let made = c.write_sheet.ensures in
     printed_as (ap₂ (λ (most half : ℕ). sheet_text args.noise.now args.sent.now args.read.now most half)
     c.ceiling-most.ensures c.half_modulus-half.ensures)
-    (record { count_is = made.value; short = made.out_after.1; text_is = made.out_after.0 })
+    (record { count_is = made.value; short = made.upper_bound; text_is = made.out_after })

@@ -52,4 +52,4 @@ returns c =
     let args = c.args in
     let message = c.decrypt-answer.ensures in
     let key = c.key_of_message.ensures in let whole = decapsulated_made args.p args.secret.now (passed (goal.at.returns c).Else-not-key_below) args.ciphertext.now _ args.message.now _ _ args.shared.now _
-    (sym message.answer ∙ ap outcome c.in-Done.is) message.halves.1 message.halves.0 key.answer key.agreed in record { answer = whole.0; agreed = whole.1 }
+    (sym message.answer ∙ ap outcome c.in-Done.is) message.read message.halves key.answer key.agreed in record { answer = whole.0; agreed = whole.1 }

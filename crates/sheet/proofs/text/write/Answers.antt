@@ -16,7 +16,7 @@ returns-then-input-lt1 c =
     let made = c.write_refused.ensures in
     let input = c.args.input.now in
     printed_as (unchecked_text input (input_empty input accepted c.if-input-lt1.true))
-    (record { count_is = made.value; short = made.out_after.1; text_is = made.out_after.0 })
+    (record { count_is = made.value; short = made.upper_bound; text_is = made.out_after })
 
 -- the input passes its checks
 passed : (c : In-Done) → input_answer c.args.input.now accepted ≡ accepted
@@ -41,4 +41,4 @@ returns-in-Refused c =
     printed_as
     (unchecked_text c.args.input.now
     (sym c.checked-checked.ensures ∙ ap outcome c.in-Refused.is))
-    (record { count_is = made.value; short = made.out_after.1; text_is = made.out_after.0 })
+    (record { count_is = made.value; short = made.upper_bound; text_is = made.out_after })

@@ -36,4 +36,4 @@ returns-in-Refused c =
     let made = c.write_refused.ensures in
     printed_as
     (refused_text_lem (rows_text c.args.set c.args.input.now) (sym c.fill-answer.ensures.answer ∙ ap outcome c.in-Refused.is))
-    (record { count_is = made.value; short = made.out_after.1; text_is = made.out_after.0 })
+    (record { count_is = made.value; short = made.upper_bound; text_is = made.out_after })

@@ -47,4 +47,4 @@ returns c =
     let first = c.keygen-answer.ensures in
     let left =
     three_steps (listed_conditions args.p c.requires.0 c.requires.1) args.seed.now args.message.now args.sealing.now (drawn (goal.at.returns c).In-Done) _ _ _ _
-    first.public.0 first.public.1 c.encrypt.ensures.sealed c.decrypt.ensures.read in record { answer = first.answer; key = λ _. left.0; read = λ _. left.1 }
+    first.public first.secret c.encrypt.ensures.sealed c.decrypt.ensures.read in record { answer = first.answer; key = λ _. left.0; read = λ _. left.1 }

@@ -26,7 +26,7 @@ noise_of-requires c =
       pre.2,
       pre.3,
       pre.4,
-      c.read_message-answer.ensures.key.0 done,
+      c.read_message-answer.ensures.key done,
       (key_drawn c.args.p c.args.seed.now (drawn (goal.at.noise_of-requires c).In-Done)).0,
       pre.9,
       c.read_message-answer.auto.work ∙ pre.12,
@@ -36,6 +36,6 @@ pub returns : goal.returns
 returns c =
     let args = c.args in
     let pre = c.requires in
-    let opened = c.read_message-answer.ensures.key.1 (ap outcome c.in-Done.is) in
+    let opened = c.read_message-answer.ensures.read (ap outcome c.in-Done.is) in
     let values = c.noise_of.ensures in record { answer = c.read_message-answer.ensures.answer; rows = λ _. rows_filled args.p args.seed.now args.message.now args.sealing.now _ _ _ _ _ _
           values.values values.sizes c.bits_of.ensures pre.10 c.bits_of-2.ensures pre.11 opened }
