@@ -65,6 +65,12 @@ class Function:
                 self.step[norm(o)] = n
                 if callee:
                     self.callee[norm(o)] = callee
+        # a pattern's points, one for each part that it reads: the last is the one to name
+        arms = self.d["arms"]
+        for i, a in enumerate(arms):
+            if a:
+                best = max((j for j, b in enumerate(arms) if b and b[0] == a[0] and self.ups(norm(self.d["places"][j][0]), norm(self.d["places"][i][0])) is not None), key=lambda j: arms[j][1])
+                self.place[norm(self.d["places"][i][0])] = names[best]
         self.loops = {norm(a): (b, vs, ch) for ((a, b), vs), ch in zip(self.d["loops"], self.d["changed"])}
         self.need = {}
         for (o, n), (po, pn) in zip(self.d["needs"], self.d["asked_at"]):
@@ -135,6 +141,8 @@ class Function:
                         rest = [{"kept": "auto", "last": "new"}.get(rest[0], rest[0]), params[ones]] + rest[2 + ones:]
             elif rest[0] == "ensures" and len(rest) > 1 and rest[1].isdigit():
                 rest = [rest[0]] + by_clause(self.clauses.get(callee, ([], []))[1], rest[1:])
+        if rest == ["kept"] or rest == ["last"]:
+            rest = [{"kept": "auto", "last": "new"}[rest[0]]]
         if rest and rest[0] == "inv":
             rest[0] = "invariant"
         if rest and (new.startswith("if-") or new.endswith("-test")):
@@ -244,7 +252,7 @@ def drop_point_lets(text, var):
         if not m:
             return text
         a = m.group(1)
-        text = text[:m.start()] + re.sub(r"(?<![\w.'₀-₉-])" + re.escape(a) + r"(?![\w'₀-₉-])(?!\s*=[^=])", var, text[m.end():])
+        text = text[:m.start()] + re.sub(r"(?<![\w.'₀-₉-])" + re.escape(a) + r"(?![\w'₀-₉-])(?!\s*=[^=])" + (r"(?=[.)])" if a == "at" else ""), var, text[m.end():])
 
 
 def rename_fields(text, f, var):
@@ -372,6 +380,14 @@ def turn(f, folder):
     text = open(os.path.join(folder, "Proof.antt"), encoding="utf-8").read()
     if "tie." not in text:
         return False
+    said = []
+
+    def hide(m):
+        said.append(m.group(2))
+        return f"{m.group(1)}--\1{len(said) - 1}\1"
+
+    text = re.sub(r"^( *)--(.*)$", hide, text, flags=re.M)
+    show = lambda t: re.sub("\1(\\d+)\1", lambda m: said[int(m.group(1))], t)
     head, uses, decls = blocks(text)
     aliases, helpers, kept = [], {}, []
     for name, body in decls:
@@ -388,7 +404,7 @@ def turn(f, folder):
         if name == "module":
             m = re.search(r"^module _ \((\S+) : tie\.(\S+?)(?: invariant[^)]*)?\) where", body, re.M)
             if m:
-                own = re.findall(r"^  (?:abbrev )?(?:pub )?(" + IDENT + r") :\s*(tie\.)?", body, re.M)
+                own = re.findall(r"^ {2,}(?:abbrev )?(?:pub )?(" + IDENT + r") :\s*(tie\.)?", body, re.M)
                 for n, t in own:
                     if t:
                         aliases.append(n)
@@ -402,7 +418,7 @@ def turn(f, folder):
             continue
         if name is None or re.search(r"statement M", body):
             continue
-        m = re.search(re.escape(name) + r" :\s*\((\S+) : tie\.(\S+?)(?: invariant[^)]*)?\)", body)
+        m = re.search(re.escape(name) + r" :\s*\((\S+) : tie\.([^\s()]+)[^()]*\)", body)
         if m:
             helpers[name] = norm(m.group(2))
     for name, body in kept:
@@ -485,7 +501,7 @@ def turn(f, folder):
             ans.append(body)
             continue
         if name in helpers:
-            m = re.search(re.escape(name) + r" :\s*\((\S+) : tie\.(\S+?)((?: \S+)*?)\)", body)
+            m = re.search(re.escape(name) + r" :\s*\((\S+) : tie\.([^\s()]+)([^()]*)\)", body)
             var, at = m.group(1), helpers[name]
             place = f.place.get(at)
             if place is None:
@@ -566,7 +582,7 @@ def turn(f, folder):
         ans = [a for a in ans if a not in local]
         us = needed(uses, inv + moved)
         open(os.path.join(folder, "Invariants.antt"), "w", encoding="utf-8").write(
-            "\n".join(head + us + [f"use {goalmod}.Given as goal"]) + "\n\n" + "\n\n".join(moved + inv) + "\n")
+            show("\n".join(head + us + [f"use {goalmod}.Given as goal"]) + "\n\n" + "\n\n".join(moved + inv) + "\n"))
         if names:
             uses.append(f"use {goalmod}.Invariants.{{{', '.join(names)}}}")
     if ans:
@@ -575,7 +591,7 @@ def turn(f, folder):
         if points:
             us.append(f"use {goalmod}.Goals.{{{', '.join(points)}}}")
         open(os.path.join(folder, "Answers.antt"), "w", encoding="utf-8").write(
-            "\n".join(head + us + [f"use {goalmod}.Goals as goal"]) + "\n\n" + "\n\n".join(ans) + "\n")
+            show("\n".join(head + us + [f"use {goalmod}.Goals as goal"]) + "\n\n" + "\n\n".join(ans) + "\n"))
     os.remove(os.path.join(folder, "Proof.antt"))
     return True
 

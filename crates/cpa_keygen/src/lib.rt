@@ -12,7 +12,7 @@ ghost use Rattle.byte_source.specs.Source.{state_at};
 ghost use Rattle.samplers.specs.Blocks.{onward, answer_of};
 ghost use Rattle.samplers.specs.Seeded.{secret_drawn, secret_state, public_drawn, errors_drawn};
 ghost use Rattle.ntt_products.specs.Stored.{sent_inverse};
-ghost use Rattle.scheme.specs.Encryption.{secret_seed, stored_secret, public_vector, public_key};
+ghost use Rattle.scheme.specs.Encryption.{secret_seed as secret_seed_of, stored_secret, public_vector, public_key as public_key_of};
 ghost use Rattle.scheme.specs.Answers.{work_length_of, is_taken, all_taken, key_draws};
 ghost use Rattle.cpa_keygen.specs.Held.{vectors_start_of, SecretHeld};
 
@@ -85,8 +85,8 @@ fn keygen_with_buffers(
     requires { ByteRules p × Listed p × (length seed.now ≡ 32) × (length public_key.old ≡ public_key_bytes_of p) × (length secret_seed.old ≡ 32)
         × (length work.old ≡ work_length_of p) × (length seedsk.old ≡ 32) × (length seedpk.old ≡ 32) }
     ensures answer { outcome result ≡ key_draws p seed.now }
-    ensures public { public_key.new ≡ leaves (key_draws p seed.now) (public_key p seed.now) public_key.old }
-    ensures secret { secret_seed.new ≡ leaves (key_draws p seed.now) (secret_seed p seed.now) secret_seed.old }
+    ensures public { public_key.new ≡ leaves (key_draws p seed.now) (public_key_of p seed.now) public_key.old }
+    ensures secret { secret_seed.new ≡ leaves (key_draws p seed.now) (secret_seed_of p seed.now) secret_seed.old }
 {
     let next = byte_source::source_bytes(p, seed, 0, seedsk);
     byte_source::source_bytes(p, seed, next, seedpk);
@@ -110,8 +110,8 @@ pub fn keygen(
     requires { ByteRules p × Listed p × (length seed.now ≡ 32) × (length public_key.old ≡ public_key_bytes_of p) × (length secret_seed.old ≡ 32)
         × (length work.old ≡ work_length_of p) }
     ensures answer { outcome result ≡ key_draws p seed.now }
-    ensures public { public_key.new ≡ leaves (key_draws p seed.now) (public_key p seed.now) public_key.old }
-    ensures secret { secret_seed.new ≡ leaves (key_draws p seed.now) (secret_seed p seed.now) secret_seed.old }
+    ensures public { public_key.new ≡ leaves (key_draws p seed.now) (public_key_of p seed.now) public_key.old }
+    ensures secret { secret_seed.new ≡ leaves (key_draws p seed.now) (secret_seed_of p seed.now) secret_seed.old }
 {
     let mut seedsk = [0u8; 32];
     let mut seedpk = [0u8; 32];

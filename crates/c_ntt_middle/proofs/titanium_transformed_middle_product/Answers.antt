@@ -6,4 +6,4 @@ use Rattle.c_ntt_middle.proofs.titanium_transformed_middle_product.Goals as goal
 
 pub returns : goal.returns
 returns c =
-    let made = c.middle_product.ensures in let whole = (c.code.ensures ∙ ap coded made.answer, made.left) in record { answer = whole.0; left = whole.1; cleared = whole.2 }
+    let made = c.middle_product.ensures in record { answer = c.code.ensures ∙ ap coded made.answer; left = made.left; cleared = made.cleared }

@@ -48,7 +48,7 @@ module _ (c : After-recover_first) where
   abbrev p : Parameters
   p = c.args.p
 
-  -- the of the buffer has the places of the second transform
+  -- the front of the buffer has the places of the second transform
   front_size : length c.recover_first.new.x ≡ transform_size_of p 2
   front_size =
       let x = c.args.x.now in

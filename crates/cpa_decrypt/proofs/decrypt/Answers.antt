@@ -35,7 +35,7 @@ residues_from-drawn-requires c =
     let bytes = c.requires.0 in
     let room = rw (← c.requires.5) at (secret_room p) in rw (front_length c.args.work.now p.d3 room) (record { rules = (kept, omega (arith, c.requires.2), bytes.some_bytpcs, bytes.most_bytpcs); out_nonzero = (omega (arith, kept.holds3, kept.some_n, kept.some_d, kept.some_k), omega (arith, kept.most_d3)) })
 
--- after the draw: the secret's seed, the set's parameters, the work slice before, and what the left at its front
+-- after the draw: the secret's seed, the set's parameters, the work slice before, and what the draw left at its front
 module _ (c : After-residues_from-drawn) where
   abbrev seed : List ℕ
   seed = c.args.seed.now
@@ -57,12 +57,12 @@ module _ (c : After-residues_from-drawn) where
   drawn_length : length drawn ≡ p.d3
   drawn_length = omega (arith, c.residues_from-drawn.auto, front_length work p.d3 room)
 
-  -- the is the one that the definition makes
+  -- the draw is the one that the definition makes
   answered : uniform_answer p (initial seed) p.bytpcs p.d3 ≡ onward seed c.residues_from-drawn.result
   answered = sym (rw (front_length work p.d3 room) at c.residues_from-drawn.ensures.answer)
 
   module _ {next : ℕ} (told : c.residues_from-drawn.result ≡ Counter next) where
-    -- a with a counter has its numbers
+    -- a draw with a counter has its numbers
     secret : Onto (uniform p (initial seed) p.bytpcs p.d3).drawn (uniform p (initial seed) p.bytpcs p.d3).next (state_at seed next)
     secret = answer_onto p (initial seed) p.bytpcs p.d3 (state_at seed next) (answered ∙ ap (onward seed) told)
 
@@ -85,19 +85,20 @@ slice_bounds-read-end c = front_room (drawn (goal.at.slice_bounds-read-end c).Af
 
 pub read-requires : goal.read-requires
 read-requires c =
+    let begun = at in
     let told = c.in-Counter.is in (
-      c.requires.0,
-      c.requires.1,
-      c.requires.3,
-      subst⁻¹ (λ (l : List ℕ). Placed (p (goal.at.read-requires c).After-residues_from-drawn) 3 (transform_size_of (p (goal.at.read-requires c).After-residues_from-drawn) 3) l) (stored c told) (stored_placed c told),
-      c.requires.4,
+      begun.pre.0,
+      begun.pre.1,
+      begun.pre.3,
+      subst⁻¹ (λ (l : List ℕ). Placed (p (goal.at.read-requires c).After-residues_from-drawn) 3 (transform_size_of (p (goal.at.read-requires c).After-residues_from-drawn) 3) l) (stored at told) (stored_placed at told),
+      begun.pre.4,
     )
 
 pub returns-in_default : goal.returns-in_default
 returns-in_default c =
     let told = c.in_default.is in
     let bytes = c.requires.0 in
-    let none = answer_refusal (p (goal.at.returns-in_default c).After-residues_from-drawn) (initial (seed (goal.at.returns-in_default c).After-residues_from-drawn)) (p (goal.at.returns-in_default c).After-residues_from-drawn).bytpcs (p (goal.at.returns-in_default c).After-residues_from-drawn).d3 bytes.some_bytpcs _ (answered (goal.at.returns-in_default c).After-residues_from-drawn ∙ ap (onward (seed (goal.at.returns-in_default c).After-residues_from-drawn)) told) in
+    let none = answer_refusal (p (goal.at.returns-in_default c).After-residues_from-drawn) (initial (seed (goal.at.returns-in_default c).After-residues_from-drawn)) (p (goal.at.returns-in_default c).After-residues_from-drawn).bytpcs (p (goal.at.returns-in_default c).After-residues_from-drawn).d3 bytes.some_bytpcs _ (answered at ∙ ap (onward (seed (goal.at.returns-in_default c).After-residues_from-drawn)) told) in
     let five = c.refusal_of.ensures ∙ ap refused_by told ∙ none.0 in
     let call = refused_call _ _ (secret_refused (p (goal.at.returns-in_default c).After-residues_from-drawn) (seed (goal.at.returns-in_default c).After-residues_from-drawn) none.1) in record { answer = ap (λ (k : ℕ). refused k 0) five ∙ call.0; read = call.1 }
 
@@ -105,7 +106,7 @@ pub returns : goal.returns
 returns c =
     let ct = c.args.ciphertext.now in
     let told = c.in-Counter.is in
-    let found = secret c told in let whole = accepted_call _ _ (secret_taken (p (goal.at.returns c).After-residues_from-drawn) (seed (goal.at.returns c).After-residues_from-drawn) found.xs found.drawn_is).0
+    let found = secret at told in let whole = accepted_call _ _ (secret_taken (p (goal.at.returns c).After-residues_from-drawn) (seed (goal.at.returns c).After-residues_from-drawn) found.xs found.drawn_is).0
     (c.read.ensures
-    ∙ ap (λ (l : List ℕ). decrypted_message_from (p (goal.at.returns c).After-residues_from-drawn) l ct) (stored c told)
+    ∙ ap (λ (l : List ℕ). decrypted_message_from (p (goal.at.returns c).After-residues_from-drawn) l ct) (stored at told)
     ∙ opened_message (p (goal.at.returns c).After-residues_from-drawn) (seed (goal.at.returns c).After-residues_from-drawn) ct) in record { answer = whole.0; read = whole.1 }

@@ -21,7 +21,7 @@ read_differences-requires c =
     let kept = listed_rules p c.requires.1 in (
       c.requires.0,
       c.requires.1,
-      omega (arith, c.unpack_dropped.kept, c.requires.6),
+      omega (arith, c.unpack_dropped.auto, c.requires.6),
       omega (arith, c.correlate_first.auto, c.requires.5, third_size p, kept.holds3, kept.some_n, kept.some_k),
       rw (c.unpack_dropped.ensures, c.requires.6) (second_double p kept _ _),
       front_below p c.args.stored.now c.args.ciphertext.now _ (omega (arith, kept.odd)) c.correlate_first.ensures,

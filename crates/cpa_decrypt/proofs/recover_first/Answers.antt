@@ -38,7 +38,7 @@ module _ (c : After-reduce_all) where
   abbrev numbers : List ℕ
   numbers = unpack p.width (transform_size_of p 2) c.args.packed.now
 
-  -- the are theirs
+  -- the residues are theirs
   made : c.reduce_all.new.xs ≡ reduced p.q numbers
   made =
       c.reduce_all.ensures
@@ -57,6 +57,6 @@ pub returns : goal.returns
 returns c =
     let known = c.requires.1 in
     let n = (p (goal.at.returns c).After-reduce_all).n + (p (goal.at.returns c).After-reduce_all).k in
-    (rw c.first_count.ensures c c.recover_first.ensures)
+    (rw c.first_count.ensures at c.recover_first.ensures)
     ∙ ap (recovered (p (goal.at.returns c).After-reduce_all) 2 n) (made (goal.at.returns c).After-reduce_all)
     ∙ recovered_reduced (p (goal.at.returns c).After-reduce_all) known 2 n (numbers (goal.at.returns c).After-reduce_all) (few (p (goal.at.returns c).After-reduce_all) known)

@@ -11,11 +11,11 @@ use Rattle.samplers.proofs.Laws.{secret_state_small}
 use Rattle.cpa_keygen.proofs.Drawn.{true_false, Advanced, advanced, stopped, secret_never_ends, refuse_taken, refuse_not_taken}
 use Rattle.cpa_keygen.proofs.WholeKey.{secret_held}
 use borrow.Author.Rules.{rules}
-use Rattle.cpa_keygen.proofs.draw_secret.Goals.{In-Counter-2}
+use Rattle.cpa_keygen.proofs.draw_secret.Goals.{In-Counter}
 use Rattle.cpa_keygen.proofs.draw_secret.Goals as goal
 
--- a with a counter: the secret is taken, and its state is known
-module _ (c : In-Counter-2) where
+-- a draw with a counter: the secret is taken, and its state is known
+module _ (c : In-Counter) where
   took :
       Advanced (secret_drawn c.args.p c.args.seed.now)
       (secret_state c.args.p c.args.seed.now) (state_at c.args.seed.now c.in-Counter.next)
@@ -25,7 +25,7 @@ pub draw_errors-requires : goal.draw_errors-requires
 draw_errors-requires c =
     let pre = c.requires in
     let small = secret_state_small c.args.p (listed_rules _ pre.1) pre.0 c.args.seed.now in
-    (pre.0, pre.1, pre.2, search rules, omega (arith, small, ap (λ (s : State). s.counter) (took (goal.at.draw_errors-requires c).In-Counter-2).next_is))
+    (pre.0, pre.1, pre.2, search rules, omega (arith, small, ap (λ (s : State). s.counter) (took (goal.at.draw_errors-requires c).In-Counter).next_is))
 
 pub returns-in_default : goal.returns-in_default
 returns-in_default c =
@@ -36,6 +36,6 @@ returns-in_default c =
 
 pub returns : goal.returns
 returns c =
-    let pre = c.requires in record { answer = sym (refuse_taken accepted (took (goal.at.returns c).In-Counter-2).all_taken_lem); result = λ t.
-          secret_held c.args.p pre.0 pre.1 c.args.seed.now c.args.work.now _ _ _ pre.3 t (took (goal.at.returns c).In-Counter-2).next_is
+    let pre = c.requires in record { answer = sym (refuse_taken accepted (took (goal.at.returns c).In-Counter).all_taken_lem); result = λ t.
+          secret_held c.args.p pre.0 pre.1 c.args.seed.now c.args.work.now _ _ _ pre.3 t (took (goal.at.returns c).In-Counter).next_is
           (c.draw_stored-drawn.ensures.result t) c.draw_errors.ensures }

@@ -34,7 +34,7 @@ shape c = shaped _ _ (sym c.check_shape-shape.ensures ∙ ap outcome c.in-Done.i
 some : (c : Else-wanted-eq0) → 0 < wanted (goal.at.Else-wanted-eq0 c).Start
 some c = omega (arith, c.if-wanted-eq0.false)
 
--- the set keeps its set_rules
+-- the set keeps its rules
 ruled : (c : After-parameters_of-p) → Rules c.parameters_of-p.result × ByteRules c.parameters_of-p.result
 ruled c =
     let s = shape (goal.at.After-parameters_of-p c).In-Done in

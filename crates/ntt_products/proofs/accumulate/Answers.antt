@@ -11,7 +11,7 @@ use Rattle.ntt_products.proofs.Pointwise.{accumulated_length, accumulated_scaled
 use Rattle.ntt_products.proofs.accumulate.Goals.{In-loop-j}
 use Rattle.ntt_products.proofs.accumulate.Goals as goal
 
--- the place of a is one of the total, and of x
+-- the place of a turn is one of the total, and of x
 turn_below : (c : In-loop-j) → c.loop-j.j < length c.args.total.now
 turn_below c = omega (arith, c.loop-j.invariant.kept_length, c.loop-j-test.true)
 

@@ -41,7 +41,7 @@ lengths : (c : Else-not-lengths_fit)
     ≡ true
 lengths c = sym c.lengths_fit.ensures ∙ c.if-not-lengths_fit.false
 
--- the set's numbers keep the set_rules
+-- the set's numbers keep the rules
 kept : (c : Else-not-lengths_fit) → Rules c.parameters_of-p.result
 kept c =
     rw (← c.parameters_of-p.ensures) at (set_rules c.args.set (omega (arith, c.if-set-gt-LAST.false)))

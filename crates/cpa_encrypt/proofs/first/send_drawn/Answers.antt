@@ -44,14 +44,15 @@ send_first-requires c =
     let placed = drawn_placed c.args.p c.requires.1 (state (goal.at.send_first-requires c).Start) c.args.y.now _ c.requires.5 in
     (c.requires.1, c.requires.2, placed (drawn (goal.at.send_first-requires c).In-Counter))
 
--- the answer is that of a of n numbers
+-- the answer is that of a draw of n numbers
 answered : (c : After-residues_from-drawn) → onward c.args.seed.now c.residues_from-drawn.result ≡ uniform_answer c.args.p (state (goal.at.After-residues_from-drawn c).Start) c.args.p.bytpca c.args.p.n
 answered c = c.residues_from-drawn.ensures.answer ∙ answer_whole c.args.p (state (goal.at.After-residues_from-drawn c).Start) _ (front_size (goal.at.After-residues_from-drawn c).Start)
 
 pub returns-in_default : goal.returns-in_default
 returns-in_default c =
-    let told = sym c.residues_from-drawn.ensures.answer ∙ ap (onward c.args.seed.now) c.in_default.is in
-    let none = drawn_refused c.args.p (state (goal.at.returns-in_default c).Start) _ (front_size (goal.at.returns-in_default c).Start) c.requires.0.some_bytpca _ told in record { answer = answered (goal.at.returns-in_default c).After-residues_from-drawn; result = λ xs u. absurd (none xs u) }
+    let begun = at in
+    let told = sym c.residues_from-drawn.ensures.answer ∙ ap (onward begun.args.seed.now) c.in_default.is in
+    let none = drawn_refused begun.args.p (state begun) _ (front_size begun) begun.pre.0.some_bytpca _ told in record { answer = answered at; result = λ xs u. absurd (none xs u) }
 
 pub returns : goal.returns
 returns c =

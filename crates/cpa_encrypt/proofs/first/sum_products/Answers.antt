@@ -11,7 +11,7 @@ use Rattle.sets.proofs.Rules.{listed_rules}
 use Rattle.ntt_products.proofs.Laws.{rules_odd}
 use Rattle.cpa_encrypt.proofs.Adding.{adding_none, adding_more, adding_addends, adding_all}
 use Rattle.cpa_encrypt.proofs.Adding.{PolynomialSent, polynomial_sent, polynomial_refused, counter_small}
-use Rattle.cpa_encrypt.proofs.first.sum_products.Goals.{In-Counter-2, In-loop-i}
+use Rattle.cpa_encrypt.proofs.first.sum_products.Goals.{In-Counter, In-loop-i}
 use Rattle.cpa_encrypt.proofs.first.sum_products.Goals as goal
 
 pub negated_inverse-k-requires : goal.negated_inverse-k-requires
@@ -21,7 +21,7 @@ negated_inverse-k-requires c =
 pub loop-i-init : goal.loop-i-init
 loop-i-init c = adding_none c.args.p c.requires.1 _ _ _ _ _ c.requires.5 c.requires.6 c.requires.7
 
--- a is one of t
+-- a turn is one of t
 turn_below : (c : In-loop-i) → c.loop-i.i < c.args.p.t
 turn_below c = omega (arith, c.loop-i-test.true)
 
@@ -32,22 +32,25 @@ send_multipliers-requires c =
 
 pub send_drawn-drawn-requires : goal.send_drawn-drawn-requires
 send_drawn-drawn-requires c =
-    let pre = c.requires in
+    let from = at in
+    let pre = from.pre in
     let inv = c.loop-i.invariant in
-    let small = counter_small c.args.p pre.1 c.args.seed.now c.args.multipliers.now pre.0 inv.within inv.reached in
+    let small = counter_small from.args.p pre.1 from.args.seed.now from.args.multipliers.now pre.0 inv.within inv.reached in
     (pre.0, pre.1, pre.4, pre.2, small, inv.y_size)
 
 pub returns-in_default : goal.returns-in_default
 returns-in_default c =
-    let this = c.loop-i in
+    let tested = at in
+    let from = tested in
+    let this = tested.loop in
     let refusal = c.in_default.is in
     let none =
-    polynomial_refused c.args.p c.requires.1 c.args.seed.now c.args.multipliers.now _ this.i this.invariant.reached _ c.requires.0
-    (turn_below (goal.at.returns-in_default c).In-loop-i) (sym c.send_drawn-drawn.ensures.answer ∙ ap (onward c.args.seed.now) refusal) in
+    polynomial_refused from.args.p from.pre.1 from.args.seed.now from.args.multipliers.now _ this.i this.inv.reached _ from.pre.0
+    (turn_below tested) (sym c.send_drawn-drawn.ensures.answer ∙ ap (onward from.args.seed.now) refusal) in
     let answer = ap (λ (k : ℕ). refused k 0) (c.refusal_of.ensures ∙ ap refused_by refusal) in record { answer = answer ∙ none; result = λ e. absurd (accepted_refused e refl) }
 
--- the polynomial of a is drawn and sent
-sent_here : (c : In-Counter-2) → PolynomialSent c.args.p c.args.seed.now c.loop-i.i
+-- the polynomial of a turn is drawn and sent
+sent_here : (c : In-Counter) → PolynomialSent c.args.p c.args.seed.now c.loop-i.i
     (state_at c.args.seed.now c.in-Counter.next) c.send_drawn-drawn.new.y
 sent_here c =
     let this = c.loop-i in
@@ -57,8 +60,10 @@ sent_here c =
 
 pub accumulate-requires : goal.accumulate-requires
 accumulate-requires c =
-    adding_addends c.args.p c.requires.1 c.args.seed.now c.args.multipliers.now c.negated_inverse-k.ensures
-    c.loop-i.invariant c.send_multipliers.ensures (sent_here (goal.at.accumulate-requires c).In-Counter-2).y_is
+    let tested = at in
+    let from = tested in
+    adding_addends from.args.p from.pre.1 from.args.seed.now from.args.multipliers.now tested.negated-inverse.ensures
+    tested.loop.inv c.send_multipliers.ensures (sent_here (goal.at.accumulate-requires c).In-Counter).y_is
 
 pub overflow_add-i : goal.overflow_add-i
 overflow_add-i c =
@@ -69,9 +74,11 @@ loop-i-smaller c = omega (arith, c.loop-i-test.true)
 
 pub loop-i-preserved : goal.loop-i-preserved
 loop-i-preserved c =
-    adding_more c.args.p c.requires.1 c.args.seed.now c.args.multipliers.now _ _ _ _ c.loop-i.invariant (turn_below (goal.at.loop-i-preserved c).In-loop-i)
-    (sent_here (goal.at.loop-i-preserved c).In-Counter-2) c.send_multipliers.ensures c.accumulate.ensures
+    let tested = at in
+    let from = tested in
+    adding_more from.args.p from.pre.1 from.args.seed.now from.args.multipliers.now _ _ _ _ tested.loop.inv (turn_below tested)
+    (sent_here (goal.at.loop-i-preserved c).In-Counter) c.send_multipliers.ensures c.accumulate.ensures
 
 pub returns : goal.returns
 returns c =
-    let whole = adding_all c.args.p c.requires.1 c.args.seed.now c.args.multipliers.now c.loop-i.invariant (omega (arith, c.loop-i-test.false)) in record { answer = whole.0; result = whole.1 }
+    let from = at in let whole = adding_all from.args.p from.pre.1 from.args.seed.now from.args.multipliers.now c.loop-i.invariant (omega (arith, c.loop-i-test.false)) in record { answer = whole.0; result = whole.1 }

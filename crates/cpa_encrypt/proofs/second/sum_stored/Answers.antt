@@ -8,7 +8,7 @@ use Rattle.calls.specs.Region.{vector}
 use Rattle.calls.proofs.Region.{region_part}
 use Rattle.sets.proofs.Rules.{listed_rules}
 use Rattle.ntt_products.proofs.Laws.{rules_odd}
-use Rattle.cpa_encrypt.proofs.Correlating.{key_room, correlating_none}
+use Rattle.cpa_encrypt.proofs.Correlating.{KeyRoom, key_room, correlating_none}
 use Rattle.cpa_encrypt.proofs.Correlating.{correlating_more, correlating_addends, correlating_all}
 use Rattle.cpa_encrypt.proofs.second.sum_stored.Goals.{In-loop-i}
 use Rattle.cpa_encrypt.proofs.second.sum_stored.Goals as goal
@@ -19,12 +19,12 @@ negated_inverse-k-requires c = rules_odd c.args.p (listed_rules c.args.p c.requi
 pub loop-i-init : goal.loop-i-init
 loop-i-init c = correlating_none c.args.p c.requires.0 _ _ _ _ c.requires.4 c.requires.5
 
--- a is one of t
+-- a turn is one of t
 turn_below : (c : In-loop-i) → c.loop-i.i < c.args.p.t
 turn_below c = omega (arith, c.loop-i-test.true)
 
 -- its b̂_i lies within all of them
-turn_room : (c : In-loop-i)
+turn_room : (c : In-loop-i) → let p = c.args.p in KeyRoom p c.loop-i.i (p.d1 * p.t)
 turn_room c = key_room c.args.p c.requires.0 c.loop-i.i (turn_below c)
 
 -- and is the part that is lent
@@ -59,8 +59,10 @@ slice_bounds-accumulate-end c =
 
 pub accumulate-requires : goal.accumulate-requires
 accumulate-requires c =
-    correlating_addends c.args.p c.requires.0 c.args.numbers.now c.args.multipliers.now c.negated_inverse-k.ensures
-    c.requires.1 c.loop-i.invariant (turn_below (goal.at.accumulate-requires c).In-loop-i) c.send_multipliers.ensures (turn_part (goal.at.accumulate-requires c).In-loop-i)
+    let tested = at in
+    let from = tested in
+    correlating_addends from.args.p from.pre.0 from.args.numbers.now from.args.multipliers.now tested.negated-inverse.ensures
+    from.pre.1 tested.loop.inv (turn_below tested) c.send_multipliers.ensures (turn_part tested)
 
 pub overflow_add-i : goal.overflow_add-i
 overflow_add-i c =
@@ -71,9 +73,12 @@ loop-i-smaller c = omega (arith, c.loop-i-test.true)
 
 pub loop-i-preserved : goal.loop-i-preserved
 loop-i-preserved c =
-    correlating_more c.args.p c.requires.0 c.args.numbers.now c.args.multipliers.now _ _ _ c.loop-i.invariant
-    (turn_below (goal.at.loop-i-preserved c).In-loop-i) c.send_multipliers.ensures (turn_part (goal.at.loop-i-preserved c).In-loop-i) c.accumulate.ensures
+    let tested = at in
+    let from = tested in
+    correlating_more from.args.p from.pre.0 from.args.numbers.now from.args.multipliers.now _ _ _ tested.loop.inv
+    (turn_below tested) c.send_multipliers.ensures (turn_part tested) c.accumulate.ensures
 
 pub returns : goal.returns
 returns c =
-    correlating_all c.args.p c.requires.0 c.args.numbers.now c.args.multipliers.now c.loop-i.invariant (omega (arith, c.loop-i-test.false))
+    let from = at in
+    correlating_all from.args.p from.pre.0 from.args.numbers.now from.args.multipliers.now c.loop-i.invariant (omega (arith, c.loop-i-test.false))

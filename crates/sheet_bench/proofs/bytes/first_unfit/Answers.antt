@@ -18,10 +18,10 @@ pub returns-then-not-fits : goal.returns-then-not-fits
 returns-then-not-fits c =
     let at = c.loop-i in
     passing_is bench_fits 0 c.args.input.now 0 at.i at.invariant.0 (λ k h. rw zero-add (at.invariant.1 k h))
-    (λ h. rw zero-add (sym c.fits2.ensures ∙ c.if-not-fits.true))
+    (λ h. rw zero-add (sym c.fits.ensures ∙ c.if-not-fits.true))
 
 pub loop-i-preserved : goal.loop-i-preserved
-loop-i-preserved c = (search rules, below_more _ _ c.loop-i.invariant.1 (sym c.fits2.ensures ∙ c.if-not-fits.false))
+loop-i-preserved c = (search rules, below_more _ _ c.loop-i.invariant.1 (sym c.fits.ensures ∙ c.if-not-fits.false))
 
 pub returns : goal.returns
 returns c =

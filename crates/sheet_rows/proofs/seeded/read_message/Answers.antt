@@ -27,18 +27,20 @@ returns-in_default c =
 pub encrypt-requires : goal.encrypt-requires
 encrypt-requires c =
     let pre = c.requires in
-    (pre.0, pre.1, c.keygen-answer.auto.public_key ∙ pre.5, pre.3, pre.4, pre.7, c.keygen-answer.auto.work ∙ pre.9)
+    let kept = c.keygen-answer.auto in
+    (pre.0, pre.1, kept.public_key ∙ pre.5, pre.3, pre.4, pre.7, kept.work ∙ pre.9)
 
 pub decrypt-requires : goal.decrypt-requires
 decrypt-requires c =
     let pre = c.requires in
-    (
+    let first = c.keygen-answer.auto in
+    let second = c.encrypt.auto in (
       pre.0,
       pre.1,
-      c.keygen-answer.auto.secret_seed ∙ pre.6,
-      c.encrypt.auto.ciphertext ∙ pre.7,
+      first.secret_seed ∙ pre.6,
+      second.ciphertext ∙ pre.7,
       pre.8,
-      c.encrypt.auto.work ∙ c.keygen-answer.auto.work ∙ pre.9,
+      second.work ∙ first.work ∙ pre.9,
     )
 
 pub returns : goal.returns

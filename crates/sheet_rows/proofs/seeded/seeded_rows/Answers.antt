@@ -3,7 +3,6 @@
 use mathlib.Core.Path.{◌∙◌}
 use Prim.Native.Nat.{◌≤◌}
 use native.Mathlib.Omega.{arith}
-use borrow.Author.Rules.{rules}
 use Rattle.sets.specs.Rules.{Rules}
 use Rattle.sets.proofs.Rules.{listed_rules}
 use Rattle.calls.proofs.Parts.{array_front}
