@@ -44,7 +44,7 @@ def write(p, text):
 
 def snake(name):
     s = name.replace("′", "'")
-    s = re.sub(r"(?<=[a-z0-9])([A-Z])(?=[A-Z]*)", lambda m: "_" + m.group(1).lower(), s)
+    s = re.sub(r"(?<=[a-z0-9])([A-Z]+)", lambda m: "".join("_" + ch.lower() for ch in m.group(1)), s)
     s = re.sub(r"(?<=[a-z0-9])ℤ", "_ℤ", s)
     s = re.sub(r"(?<=[\w₀-₉'])-(?=[\w₀-₉'])", "_", s)
     return s

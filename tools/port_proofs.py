@@ -244,6 +244,9 @@ def strip_before(text):
     return text
 
 
+POINTS = {"-"}
+
+
 def drop_point_lets(text, var):
     """`let a = c in`, where c is the point itself: a is c."""
     names = [var]
@@ -252,6 +255,10 @@ def drop_point_lets(text, var):
         if not m:
             return text
         a = m.group(1)
+        if a == "at":
+            rest = re.sub(r"(?<![\w.'₀-₉-])(" + "|".join(sorted(map(re.escape, POINTS), key=len, reverse=True)) + r") at(?![\w'₀-₉-])", lambda k: f"{k.group(1)} {var}", text[m.end():])
+            rest = re.sub(r"= at in(?![\w-])", f"= {var} in", rest)
+            text = text[:m.end()] + rest
         text = text[:m.start()] + re.sub(r"(?<![\w.'₀-₉-])" + re.escape(a) + r"(?![\w'₀-₉-])(?!\s*=[^=])" + (r"(?=[.)])" if a == "at" else ""), var, text[m.end():])
 
 
@@ -396,6 +403,7 @@ def turn(f, folder):
             aliases.append(name)
             continue
         kept.append((name, body))
+    POINTS.update(helpers)
     inv, ans = [], []
     dirparts = f.path
     goalmod = f"Rattle.{f.crate}.proofs.{dirparts}"
@@ -421,6 +429,7 @@ def turn(f, folder):
         m = re.search(re.escape(name) + r" :\s*\((\S+) : tie\.([^\s()]+)[^()]*\)", body)
         if m:
             helpers[name] = norm(m.group(2))
+    POINTS.update(helpers)
     for name, body in kept:
         if name is None or re.search(r"statement M", body):
             continue

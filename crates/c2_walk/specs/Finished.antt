@@ -9,7 +9,7 @@ use Rattle.montgomery.specs.Scaled.{Modulus}
 use Rattle.packing.specs.Digits as packed
 use Rattle.packing.specs.Message as messages
 use Rattle.packing.specs.Message.{message_bits_of}
-use Rattle.ntt.specs.Rows as rowSums
+use Rattle.ntt.specs.Rows as row_sums
 use Rattle.ntt.specs.Rows.{first_row_at}
 
 -- what the walk asks: a modulus, the scale of the inverse transform and half the modulus as residues, δ rows of 256 numbers, and d places for c2
@@ -28,5 +28,5 @@ finished q by half δ d rows message = tabulate d (λ j. (first_row_at q by δ r
 
 -- 2^32 is 1 modulo 5, and the bits of 1 are 1, 0, ..
 finished_example : finished 5 1 2 1 2 (1 ∷ 2 ∷ []) (1 ∷ []) ≡ 3 ∷ 2 ∷ []
-unfolding finished vectors.tabulate rowSums.first_row_at sums.sum scaled.unscale messages.message_bits_of packed.unpack packed.digits packed.value
+unfolding finished vectors.tabulate row_sums.first_row_at sums.sum scaled.unscale messages.message_bits_of packed.unpack packed.digits packed.value
 finished_example = refl

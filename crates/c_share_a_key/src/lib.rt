@@ -2,8 +2,8 @@
 #![tactic(auto)]
 
 ghost use Rattle.std.specs.Prelude.{◌≡◌};
-ghost use Rattle.share_a_key.specs.Answers.{share_aKey_answer, share_aKey_public, share_aKey_secret, share_aKey_ciphertext};
-ghost use Rattle.share_a_key.specs.Answers.{share_aKey_sent, share_aKey_received, share_aKey_work};
+ghost use Rattle.share_a_key.specs.Answers.{share_a_key_answer, share_a_key_public, share_a_key_secret, share_a_key_ciphertext};
+ghost use Rattle.share_a_key.specs.Answers.{share_a_key_sent, share_a_key_received, share_a_key_work};
 ghost use Rattle.c_answer.specs.Coded.{coded};
 
 use c_answer::code;
@@ -21,19 +21,19 @@ pub extern "C" fn titanium_share_a_key(
     received: &mut [u8],
     work: &mut [u32],
 ) -> u64
-    ensures answer { result ≡ coded (share_aKey_answer set seed.now message.now public.old
+    ensures answer { result ≡ coded (share_a_key_answer set seed.now message.now public.old
         secret.old sealed.old sent.old received.old work.old) }
-    ensures given { public.new ≡ share_aKey_public set seed.now message.now public.old
+    ensures given { public.new ≡ share_a_key_public set seed.now message.now public.old
         secret.old sealed.old sent.old received.old work.old }
-    ensures kept { secret.new ≡ share_aKey_secret set seed.now message.now public.old
+    ensures kept { secret.new ≡ share_a_key_secret set seed.now message.now public.old
         secret.old sealed.old sent.old received.old work.old }
-    ensures closed { sealed.new ≡ share_aKey_ciphertext set seed.now message.now public.old
+    ensures closed { sealed.new ≡ share_a_key_ciphertext set seed.now message.now public.old
         secret.old sealed.old sent.old received.old work.old }
-    ensures agreed { sent.new ≡ share_aKey_sent set seed.now message.now public.old
+    ensures agreed { sent.new ≡ share_a_key_sent set seed.now message.now public.old
         secret.old sealed.old sent.old received.old work.old }
-    ensures opened { received.new ≡ share_aKey_received set seed.now message.now public.old
+    ensures opened { received.new ≡ share_a_key_received set seed.now message.now public.old
         secret.old sealed.old sent.old received.old work.old }
-    ensures cleared { work.new ≡ share_aKey_work set seed.now message.now public.old
+    ensures cleared { work.new ≡ share_a_key_work set seed.now message.now public.old
         secret.old sealed.old sent.old received.old work.old }
 {
     code(share_a_key::share_a_key(

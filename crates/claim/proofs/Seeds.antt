@@ -30,10 +30,10 @@ use Rattle.claim.specs.Claim.{encryption, exchange, Demand3}
 use Rattle.claim.proofs.Draws.{sealing_drawn, reading_drawn, encapsulation_drawn, decapsulation_drawn}
 
 -- a call of a set of its own, with slices of the set's lengths, answers by its draws
-by_draws : (isOwn : ℕ → Bool) (set : ℕ) {slices ciphertext work : Bool} (draws : Outcome) → 1 ≤ set → IsSet set → isOwn set ≡ true
-    → slices ≡ true → ciphertext ≡ true → work ≡ true → draws ≡ accepted → and_then (checks isOwn set slices ciphertext work) draws ≡ accepted
-by_draws isOwn set draws some low own fit sealed-fits work-fits drawn =
-    rw (checks_pass isOwn set _ _ _ (some, omega arith, own) fit sealed-fits work-fits, drawn)
+by_draws : (is_own : ℕ → Bool) (set : ℕ) {slices ciphertext work : Bool} (draws : Outcome) → 1 ≤ set → IsSet set → is_own set ≡ true
+    → slices ≡ true → ciphertext ≡ true → work ≡ true → draws ≡ accepted → and_then (checks is_own set slices ciphertext work) draws ≡ accepted
+by_draws is_own set draws some low own fit sealed-fits work-fits drawn =
+    rw (checks_pass is_own set _ _ _ (some, omega arith, own) fit sealed-fits work-fits, drawn)
 
 module _ {p : Parameters} (c : Conditions p) where
   -- how many bytes a public key of the key exchange has

@@ -14,7 +14,7 @@ use lib.Pow.{pow_pos, pow_mono}
 use mir.Syntax.{w32}
 use mir.Val.{SFits, to_z, of_z}
 use mir.Facts.{to_z_pos, to_z-of_z}
-use Rattle.maths.proofs.Integer.{positive_part, negative_part, equal_by_parts, +ℤ-parts, neg_ℤ_parts, natAbs-+ℤ, nat_abs_neg_ℤ}
+use Rattle.maths.proofs.Integer.{positive_part, negative_part, equal_by_parts, +ℤ-parts, neg_ℤ_parts, nat_abs-+ℤ, nat_abs_neg_ℤ}
 use Rattle.draws.specs.Small.{ones, error_of_value, multiplier_of_value}
 
 -- four bits have at most four ones
@@ -52,7 +52,7 @@ pos_fits h = record { sfits = h }
 pub difference_fits : (a b : ℕ) → a ≤ 4 → b ≤ 4 → SFits w32 (to_z w32 a -ℤ to_z w32 b)
 difference_fits a b h k =
     rw (to_z_pos w32 {n = a} (omega arith), to_z_pos w32 {n = b} (omega arith))
-    (small_fits (omega (arith, natAbs-+ℤ (pos a) (neg_ℤ (pos b)), nat_abs_neg_ℤ (pos b))))
+    (small_fits (omega (arith, nat_abs-+ℤ (pos a) (neg_ℤ (pos b)), nat_abs_neg_ℤ (pos b))))
 
 -- the error of a byte, by the machine's counts of its halves
 module _ (byte : ℕ) (small : byte < 256) where

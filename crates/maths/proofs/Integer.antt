@@ -71,19 +71,19 @@ pub nat_abs_neg_ℤ : (a : ℤ) → nat_abs (neg_ℤ a) ≡ nat_abs a
 nat_abs_neg_ℤ a = omega (arith, nat_abs_parts a, nat_abs_parts (neg_ℤ a), neg_ℤ_parts a)
 
 -- the size of a sum is at most the sum of the sizes
-pub natAbs-+ℤ : (a b : ℤ) → nat_abs (a +ℤ b) ≤ nat_abs a + nat_abs b
-natAbs-+ℤ a b = go (a +ℤ b) (+ℤ-parts a b)
+pub nat_abs-+ℤ : (a b : ℤ) → nat_abs (a +ℤ b) ≤ nat_abs a + nat_abs b
+nat_abs-+ℤ a b = go (a +ℤ b) (+ℤ-parts a b)
   where
     go : (s : ℤ) → positive_part s + negative_part a + negative_part b ≡ positive_part a + positive_part b + negative_part s → nat_abs s ≤ nat_abs a + nat_abs b
     go (pos n) e = omega (arith, nat_abs_parts a, nat_abs_parts b)
     go (negsuc n) e = omega (arith, nat_abs_parts a, nat_abs_parts b)
 
 -- the size of a product is the product of the sizes
-pub natAbs-*ℤ : (a b : ℤ) → nat_abs (a *ℤ b) ≡ nat_abs a * nat_abs b
-natAbs-*ℤ (pos m) (pos n) = refl
-natAbs-*ℤ (pos m) (negsuc n) = nat_abs_neg_ℤ (pos (m * suc n))
-natAbs-*ℤ (negsuc m) (pos n) = nat_abs_neg_ℤ (pos (suc m * n))
-natAbs-*ℤ (negsuc m) (negsuc n) = refl
+pub nat_abs-*ℤ : (a b : ℤ) → nat_abs (a *ℤ b) ≡ nat_abs a * nat_abs b
+nat_abs-*ℤ (pos m) (pos n) = refl
+nat_abs-*ℤ (pos m) (negsuc n) = nat_abs_neg_ℤ (pos (m * suc n))
+nat_abs-*ℤ (negsuc m) (pos n) = nat_abs_neg_ℤ (pos (suc m * n))
+nat_abs-*ℤ (negsuc m) (negsuc n) = refl
 
 -- no term
 pub sum_ℤ_none : (f : ℕ → ℤ) → sum_ℤ 0 f ≡ pos 0

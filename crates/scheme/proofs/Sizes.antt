@@ -10,7 +10,7 @@ use lib.IntN.{ℤ, pos, nat_abs}
 use lib.ListN.{length, replicate, length-replicate, get_or-replicate}
 use lib.Pow.{pow_pos}
 use Rattle.maths.specs.Vector.{at}
-use Rattle.maths.proofs.Integer.{nat_abs_neg_ℤ, natAbs-+ℤ}
+use Rattle.maths.proofs.Integer.{nat_abs_neg_ℤ, nat_abs-+ℤ}
 use Rattle.maths.proofs.Size.{correlation_ℤ_most}
 use Rattle.calls.specs.Region.{vector}
 use Rattle.sets.specs.declared.Parameters.{Parameters}
@@ -90,4 +90,4 @@ module _ {p : Parameters} (c : Conditions p) where
         let pk : List ℕ = public_key p seed in
         let products : ℤ = product_noise_of p (multipliers_drawn p seedr) (errors p (secret_seed p seed)) j in
         let dropped : ℤ = dropped_noise_of p (cipher_second p (ciphertext p pk message seedr)) (encrypted_numbers p pk message seedr) j in
-        omega (arith, natAbs-+ℤ products dropped, product_noise_most p drawn_in_range j inside, dropped_part)
+        omega (arith, nat_abs-+ℤ products dropped, product_noise_most p drawn_in_range j inside, dropped_part)

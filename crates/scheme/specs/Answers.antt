@@ -13,13 +13,13 @@ use Rattle.scheme.specs.Exchange.{inner_seed, exchange_public_key, exchange_secr
 
 -- 1 when the set is not 1 to 12, then 8 when it is not one of the scheme called
 unfoldable pub refuse_set : (ℕ → Bool) → ℕ → Outcome → Outcome
-refuse_set isOwn set after = refuse (ltb set 1) 1 0 (refuse (no_set set) 1 0 (refuse (not (isOwn set)) 8 0 after))
+refuse_set is_own set after = refuse (ltb set 1) 1 0 (refuse (no_set set) 1 0 (refuse (not (is_own set)) 8 0 after))
 
 -- the checks of a call, which come before its draws: those of the set, then 2 when the length of a seed, a message, a key or a shared key is not the set's,
 -- 9 when that of the ciphertext is not, 10 when that of the work slice is not
 unfoldable pub checks : (ℕ → Bool) → ℕ → (slices ciphertext work : Bool) → Outcome
-checks isOwn set slices ciphertext work =
-    refuse_set isOwn set (refuse (not slices) 2 0 (refuse (not ciphertext) 9 0 (refuse (not work) 10 0 accepted)))
+checks is_own set slices ciphertext work =
+    refuse_set is_own set (refuse (not slices) 2 0 (refuse (not ciphertext) 9 0 (refuse (not work) 10 0 accepted)))
 
 -- what a call leaves in the work slice: zeros where its checks passed, else what was there
 unfoldable pub work_left : Outcome → List ℕ → List ℕ
@@ -87,21 +87,21 @@ work_fits set work = eqb work (work_length_of (set_of set))
 
 -- the checks of key, which has no ciphertext, by the lengths of seed, public key, secret key and work slice
 unfoldable pub key_checks : (ℕ → Bool) → (set seed pk sk work : ℕ) → Outcome
-key_checks isOwn set seed pk sk work = checks isOwn set (eqb seed 32 && public_fits set pk && secret_fits set sk) true (work_fits set work)
+key_checks is_own set seed pk sk work = checks is_own set (eqb seed 32 && public_fits set pk && secret_fits set sk) true (work_fits set work)
 
 -- of encrypt and of encapsulate: public key, message, the sealing seed or the shared key, ciphertext, work slice
 unfoldable pub encrypt_checks : (ℕ → Bool) → (set pk message other ct work : ℕ) → Outcome
-encrypt_checks isOwn set pk message other ct work =
-    checks isOwn set (public_fits set pk && eqb message 32 && eqb other 32) (ciphertext_fits set ct) (work_fits set work)
+encrypt_checks is_own set pk message other ct work =
+    checks is_own set (public_fits set pk && eqb message 32 && eqb other 32) (ciphertext_fits set ct) (work_fits set work)
 
 -- of decrypt and of decapsulate: secret key, ciphertext, the message or the shared key, work slice
 unfoldable pub decrypt_checks : (ℕ → Bool) → (set sk ct given work : ℕ) → Outcome
-decrypt_checks isOwn set sk ct given work = checks isOwn set (secret_fits set sk && eqb given 32) (ciphertext_fits set ct) (work_fits set work)
+decrypt_checks is_own set sk ct given work = checks is_own set (secret_fits set sk && eqb given 32) (ciphertext_fits set ct) (work_fits set work)
 
 -- of key, sealing and reading in one call: the slices of all three
 unfoldable pub round_trip_checks : (ℕ → Bool) → (set seed message other given pk sk ct work : ℕ) → Outcome
-round_trip_checks isOwn set seed message other given pk sk ct work =
-    checks isOwn set
+round_trip_checks is_own set seed message other given pk sk ct work =
+    checks is_own set
     (eqb seed 32 && eqb message 32 && eqb other 32 && eqb given 32 && public_fits set pk && secret_fits set sk)
     (ciphertext_fits set ct) (work_fits set work)
 

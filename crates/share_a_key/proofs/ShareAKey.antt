@@ -18,7 +18,7 @@ use Rattle.scheme.specs.Answers.{decapsulate_answer, decapsulated_left, decapsul
 use Rattle.scheme.proofs.Answers.{key_passed, encrypt_passed, decrypt_passed, round_trip_passed, by_checks, by_draws, work_stays}
 use Rattle.claim.specs.Claim.{exchange, Demand3}
 use Rattle.claim.proofs.Claim.{demand_3}
-use Rattle.share_a_key.specs.Answers.{share_aKey_checked, share_aKey_answer, share_aKey_work}
+use Rattle.share_a_key.specs.Answers.{share_a_key_checked, share_a_key_answer, share_a_key_work}
 
 module _ (set : ℕ) (seed message public secret sealed sent received work : List ℕ) where
   -- the checks of key, of encapsulate and of decapsulate, and all of them
@@ -32,11 +32,11 @@ module _ (set : ℕ) (seed message public secret sealed sent received work : Lis
   decapsulate_fits = decrypt_checks is_exchange set (length secret) (length sealed) (length received) (length work)
 
   abbrev pub all_fit : Outcome
-  all_fit = share_aKey_checked set seed message public secret sealed sent received work
+  all_fit = share_a_key_checked set seed message public secret sealed sent received work
 
   -- the answer of the whole
   abbrev answer : Outcome
-  answer = share_aKey_answer set seed message public secret sealed sent received work
+  answer = share_a_key_answer set seed message public secret sealed sent received work
 
   -- the ciphertext
   abbrev made : List ℕ
@@ -51,31 +51,31 @@ module _ (set : ℕ) (seed message public secret sealed sent received work : Lis
       × ((sealed₁ ≡ leaves o made sealed)
       × ((sent₁ ≡ leaves o (shared_key (set_of set) (exchange_public_key (set_of set) seed) message) sent)
       × ((received₁ ≡ leaves o (decapsulated (set_of set) (exchange_secret_key (set_of set) seed) made) received)
-      × ((work₁ ≡ share_aKey_work set seed message public secret sealed sent received work)
+      × ((work₁ ≡ share_a_key_work set seed message public secret sealed sent received work)
       × (o ≡ accepted → Demand3 set (exchange seed message))))))))
 
   -- nothing was written
   untouched : {o : Outcome} {number place : ℕ} {work₁ : List ℕ} → o ≡ refused number place → (answer ≡ refused number place) × (work₁ ≡ work_left all_fit work)
       → Promised o public secret sealed sent received work₁
-  unfolding share_aKey_work
+  unfolding share_a_key_work
   untouched {o} e answered =
       let kept : (new old : List ℕ) → old ≡ leaves o new old = λ new old. sym (leaves_refused new old e) in
       (e ∙ sym answered.0, (kept _ _, (kept _ _, (kept _ _, (kept _ _, (kept _ _, (answered.1, λ a. absurd (accepted_refused a e))))))))
 
   -- the checks refuse
   pub checks_refuse : {o : Outcome} {number place : ℕ} → o ≡ all_fit → o ≡ refused number place → Promised o public secret sealed sent received work
-  unfolding share_aKey_answer
+  unfolding share_a_key_answer
   checks_refuse e told = untouched told (by_checks (key_draws (set_of set) (inner_seed (set_of set) seed)) work (sym e ∙ told))
 
   module _ (passed : all_fit ≡ accepted) where
     -- the checks of each call pass
     fits : (key_fits ≡ accepted) × (encapsulate_fits ≡ accepted) × (decapsulate_fits ≡ accepted)
-    unfolding share_aKey_checked
+    unfolding share_a_key_checked
     fits = round_trip_passed is_exchange set _ _ _ _ _ _ _ _ passed
 
     -- the draws of the key decide, and the work slice is cleared
     whole_answers : (answer ≡ key_draws (set_of set) (inner_seed (set_of set) seed)) × (replicate (length work) 0 ≡ work_left all_fit work)
-    unfolding share_aKey_answer
+    unfolding share_a_key_answer
     whole_answers = by_draws (key_draws (set_of set) (inner_seed (set_of set) seed)) work passed refl
 
     key_answers : (exchange_key_answer set seed (length public) (length secret) (length work) ≡ key_draws (set_of set) (inner_seed (set_of set) seed))
@@ -189,7 +189,7 @@ module _ (set : ℕ) (seed message public secret sealed sent received work : Lis
         -- all three calls are accepted
         pub all_accept : {o : Outcome} {received₁ work₃ : List ℕ} → DecapsulatePromised o received₁ work₃
             → Promised o public₁ secret₁ sealed₁ sent₁ received₁ work₃
-        unfolding share_aKey_work decapsulated_left decapsulate_work
+        unfolding share_a_key_work decapsulated_left decapsulate_work
         all_accept {o} {received₁} {work₃} opened =
             let done : o ≡ accepted = opened.0 ∙ decapsulate_accepts in
             let cleared : work₃ ≡ work_left all_fit work =

@@ -12,35 +12,35 @@ use Rattle.claim.specs.Claim.{exchange, held, given}
 
 module _ (set : ℕ) (seed message public secret sealed sent received work : List ℕ) where
   -- the checks of key, encapsulate and decapsulate
-  unfoldable pub share_aKey_checked : Outcome
-  share_aKey_checked =
+  unfoldable pub share_a_key_checked : Outcome
+  share_a_key_checked =
       round_trip_checks is_exchange set (length seed) (length message) (length sent) (length received)
       (length public) (length secret) (length sealed) (length work)
 
   -- after them only a draw of the inner key is refused
-  unfoldable pub share_aKey_answer : Outcome
-  share_aKey_answer = and_then share_aKey_checked (key_draws (set_of set) (inner_seed (set_of set) seed))
+  unfoldable pub share_a_key_answer : Outcome
+  share_a_key_answer = and_then share_a_key_checked (key_draws (set_of set) (inner_seed (set_of set) seed))
 
   -- what is left in the public key, the secret key, the ciphertext, the shared key sent, the one received and the work slice
-  unfoldable pub share_aKey_public : List ℕ
-  share_aKey_public = leaves share_aKey_answer (exchange_public_key (set_of set) seed) public
+  unfoldable pub share_a_key_public : List ℕ
+  share_a_key_public = leaves share_a_key_answer (exchange_public_key (set_of set) seed) public
 
-  unfoldable pub share_aKey_secret : List ℕ
-  share_aKey_secret = leaves share_aKey_answer (exchange_secret_key (set_of set) seed) secret
+  unfoldable pub share_a_key_secret : List ℕ
+  share_a_key_secret = leaves share_a_key_answer (exchange_secret_key (set_of set) seed) secret
 
-  unfoldable pub share_aKey_ciphertext : List ℕ
-  share_aKey_ciphertext = leaves share_aKey_answer (encapsulated (set_of set) (exchange_public_key (set_of set) seed) message) sealed
+  unfoldable pub share_a_key_ciphertext : List ℕ
+  share_a_key_ciphertext = leaves share_a_key_answer (encapsulated (set_of set) (exchange_public_key (set_of set) seed) message) sealed
 
-  unfoldable pub share_aKey_sent : List ℕ
-  share_aKey_sent = leaves share_aKey_answer (held set (exchange seed message)) sent
+  unfoldable pub share_a_key_sent : List ℕ
+  share_a_key_sent = leaves share_a_key_answer (held set (exchange seed message)) sent
 
-  unfoldable pub share_aKey_received : List ℕ
-  share_aKey_received = leaves share_aKey_answer (given set (exchange seed message)) received
+  unfoldable pub share_a_key_received : List ℕ
+  share_a_key_received = leaves share_a_key_answer (given set (exchange seed message)) received
 
-  unfoldable pub share_aKey_work : List ℕ
-  share_aKey_work = work_left share_aKey_checked work
+  unfoldable pub share_a_key_work : List ℕ
+  share_a_key_work = work_left share_a_key_checked work
 
 -- a set of the encryption scheme is refused with 8 by the key exchange
-share_aKey_answer_example : share_aKey_answer 6 [] [] [] [] [] [] [] [] ≡ refused 8 0
-unfolding none table set_of is_exchange refuse_set checks round_trip_checks share_aKey_checked share_aKey_answer
-share_aKey_answer_example = refl
+share_a_key_answer_example : share_a_key_answer 6 [] [] [] [] [] [] [] [] ≡ refused 8 0
+unfolding none table set_of is_exchange refuse_set checks round_trip_checks share_a_key_checked share_a_key_answer
+share_a_key_answer_example = refl

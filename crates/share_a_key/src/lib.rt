@@ -7,7 +7,7 @@ ghost use Rattle.calls.specs.Outcome.{outcome, accepted, leaves};
 ghost use Rattle.sets.specs.Table.{set_of};
 ghost use Rattle.scheme.specs.Exchange.{exchange_public_key, exchange_secret_key, encapsulated};
 ghost use Rattle.claim.specs.Claim.{exchange, held, given, Demand3};
-ghost use Rattle.share_a_key.specs.Answers.{share_aKey_answer, share_aKey_work};
+ghost use Rattle.share_a_key.specs.Answers.{share_a_key_answer, share_a_key_work};
 
 use calls::Answer;
 
@@ -26,7 +26,7 @@ pub fn share_a_key(
     received: &mut [u8],
     work: &mut [u32],
 ) -> Answer
-    ensures answer { outcome result ≡ share_aKey_answer set seed.now message.now
+    ensures answer { outcome result ≡ share_a_key_answer set seed.now message.now
         public.old secret.old sealed.old sent.old received.old work.old }
     ensures given { public.new ≡ leaves (outcome result) (exchange_public_key (set_of set) seed.now) public.old }
     ensures kept { secret.new ≡ leaves (outcome result) (exchange_secret_key (set_of set) seed.now) secret.old }
@@ -34,7 +34,7 @@ pub fn share_a_key(
         (encapsulated (set_of set) (exchange_public_key (set_of set) seed.now) message.now) sealed.old }
     ensures agreed { sent.new ≡ leaves (outcome result) (held set (exchange seed.now message.now)) sent.old }
     ensures opened { received.new ≡ leaves (outcome result) (given set (exchange seed.now message.now)) received.old }
-    ensures cleared { work.new ≡ share_aKey_work set seed.now message.now
+    ensures cleared { work.new ≡ share_a_key_work set seed.now message.now
         public.old secret.old sealed.old sent.old received.old work.old }
     ensures claim { outcome result ≡ accepted → Demand3 set (exchange seed.now message.now) }
 {

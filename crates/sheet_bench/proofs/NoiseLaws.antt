@@ -10,8 +10,8 @@ use mir.Syntax.{w32, w64}
 use mir.Val.{SFits, of_z, to_z}
 use mir.ValLaws.{to_z-of_z}
 use Rattle.maths.specs.Integer.{sum_ℤ, product_ℤ}
-use Rattle.maths.proofs.Integer.{natAbs-+ℤ}
-use Rattle.maths.proofs.Size.{natAbs-*ℤ-most}
+use Rattle.maths.proofs.Integer.{nat_abs-+ℤ}
+use Rattle.maths.proofs.Size.{nat_abs-*ℤ_most}
 use Rattle.calls.specs.Region.{region}
 use Rattle.sets.specs.Table.{none, table, set_of}
 use Rattle.numbers.specs.Noise.{numbers_noise}
@@ -35,7 +35,7 @@ small_fits_double {z = negsuc n} h = record { sfits = omega arith }
 
 -- the product of a multiplier and an error
 product_small : (x y : ℤ) → nat_abs x ≤ 2 → nat_abs y ≤ 1 → nat_abs (x *ℤ y) ≤ 2
-product_small x y h k = natAbs-*ℤ-most x y 2 1 h k
+product_small x y h k = nat_abs-*ℤ_most x y 2 1 h k
 
 -- the products at a place of the noise
 noise_entries : (a b c x y : ℤ) (j : ℕ) → j < 2
@@ -84,7 +84,7 @@ module _ (x y u v : ℤ) (fits-x : SFits w32 x) (fits-y : SFits w32 y) (fits-u :
   stored_is = ap₂ ◌+ℤ◌ (to_z-of_z w32 _ first_fits ∙ first_is) (to_z-of_z w32 _ second_fits ∙ second_is)
 
   sum_small : nat_abs (x *ℤ y +ℤ u *ℤ v) ≤ 4
-  sum_small = omega (arith, natAbs-+ℤ (x *ℤ y) (u *ℤ v), product_small x y small-x small-y, product_small u v small-u small-v)
+  sum_small = omega (arith, nat_abs-+ℤ (x *ℤ y) (u *ℤ v), product_small x y small-x small-y, product_small u v small-u small-v)
 
   pub sum_fits : SFits w32 (to_z w32 (of_z w32 (to_z w32 (of_z w32 x) *ℤ to_z w32 (of_z w32 y))) +ℤ to_z w32 (of_z w32 (to_z w32 (of_z w32 u) *ℤ to_z w32 (of_z w32 v))))
   unfolding stored

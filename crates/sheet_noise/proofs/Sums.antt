@@ -13,7 +13,7 @@ use Rattle.maths.specs.Vector.{at}
 use Rattle.maths.specs.Integer.{sum_ℤ, centre}
 use Rattle.maths.proofs.Sum.{sum_const}
 use Rattle.maths.proofs.Integer.{nat_abs_centre, sum_ℤ_none, sum_ℤ_last}
-use Rattle.maths.proofs.Size.{sum_ℤ_most, natAbs-*ℤ-most}
+use Rattle.maths.proofs.Size.{sum_ℤ_most, nat_abs-*ℤ_most}
 use Rattle.calls.proofs.Region.{vector_fits}
 use Rattle.sets.specs.declared.Parameters.{Parameters}
 use Rattle.sets.specs.Rules.{Rules, ByteRules}
@@ -78,7 +78,7 @@ module _ (half : ℕ) (r : List ℕ) (first : ℕ) (e : List ℕ) (place : ℕ) 
     term_most l =
         let one : nat_abs (centre half (at r (first + l))) ≤ half = nat_abs_centre half (at r (first + l)) (rs.each (first + l)) in
         let other : nat_abs (centre half (at e (place + l))) ≤ half = nat_abs_centre half (at e (place + l)) (es.each (place + l)) in
-        omega (arith, natAbs-*ℤ-most (centre half (at r (first + l))) (centre half (at e (place + l))) (2 ^ 23) (2 ^ 23) (omega arith) (omega arith))
+        omega (arith, nat_abs-*ℤ_most (centre half (at r (first + l))) (centre half (at e (place + l))) (2 ^ 23) (2 ^ 23) (omega arith) (omega arith))
 
     -- the size of a sum
     pub correlation_most : (n : ℕ) → n ≤ 1024 → nat_abs (centred_correlation half n r first e place) ≤ 2 ^ 56

@@ -20,11 +20,11 @@ unfoldable pub seeded_read : Parameters → List ℕ → List ℕ → List ℕ �
 seeded_read p seed message sealing = message_bits_of p.d (message_read p seed message sealing)
 
 -- noise, sent and read are these lists, and every size of noise is small enough to be printed
-pub record Rows (noises : List ℤ) (bitsSent bitsRead : List ℕ) (noise : List ℤ) (sent read : List ℕ) : Type 0 where
+pub record Rows (noises : List ℤ) (bits_sent bits_read : List ℕ) (noise : List ℤ) (sent read : List ℕ) : Type 0 where
   pub noise_is : noise ≡ noises
   pub sizes : Sizes noise
-  pub sent_is : sent ≡ bitsSent
-  pub read_is : read ≡ bitsRead
+  pub sent_is : sent ≡ bits_sent
+  pub read_is : read ≡ bits_read
 
 -- these lists are the rows of a key seed, a message and a sealing seed
 abbrev pub SeededRows : Parameters → List ℕ → List ℕ → List ℕ → List ℤ → List ℕ → List ℕ → Type 0

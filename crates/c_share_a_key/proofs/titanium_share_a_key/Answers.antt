@@ -1,12 +1,12 @@
 -- `c_share_a_key::titanium_share_a_key` gives the answer of the call in one number, and leaves what the call leaves.
 -- Assumes nothing.
 use mathlib.Core.Path.{ap, ◌∙◌}
-use Rattle.share_a_key.specs.Answers.{share_aKey_public, share_aKey_secret, share_aKey_ciphertext, share_aKey_sent, share_aKey_received}
+use Rattle.share_a_key.specs.Answers.{share_a_key_public, share_a_key_secret, share_a_key_ciphertext, share_a_key_sent, share_a_key_received}
 use Rattle.c_answer.specs.Coded.{coded}
 use Rattle.c_share_a_key.proofs.titanium_share_a_key.Goals as goal
 
 pub returns : goal.returns
-unfolding share_aKey_public share_aKey_secret share_aKey_ciphertext share_aKey_sent share_aKey_received
+unfolding share_a_key_public share_a_key_secret share_a_key_ciphertext share_a_key_sent share_a_key_received
 returns c =
     let made = c.share_a_key.ensures in
     let public = rw made.answer at made.given in

@@ -85,20 +85,19 @@ slice_bounds-read-end c = front_room (drawn (goal.at.slice_bounds-read-end c).Af
 
 pub read-requires : goal.read-requires
 read-requires c =
-    let begun = at in
     let told = c.in-Counter.is in (
-      begun.pre.0,
-      begun.pre.1,
-      begun.pre.3,
-      subst⁻¹ (λ (l : List ℕ). Placed (p (goal.at.read-requires c).After-residues_from-drawn) 3 (transform_size_of (p (goal.at.read-requires c).After-residues_from-drawn) 3) l) (stored at told) (stored_placed at told),
-      begun.pre.4,
+      c.requires.0,
+      c.requires.1,
+      c.requires.3,
+      subst⁻¹ (λ (l : List ℕ). Placed (p (goal.at.read-requires c).After-residues_from-drawn) 3 (transform_size_of (p (goal.at.read-requires c).After-residues_from-drawn) 3) l) (stored (goal.at.read-requires c).After-residues_from-drawn told) (stored_placed (goal.at.read-requires c).After-residues_from-drawn told),
+      c.requires.4,
     )
 
 pub returns-in_default : goal.returns-in_default
 returns-in_default c =
     let told = c.in_default.is in
     let bytes = c.requires.0 in
-    let none = answer_refusal (p (goal.at.returns-in_default c).After-residues_from-drawn) (initial (seed (goal.at.returns-in_default c).After-residues_from-drawn)) (p (goal.at.returns-in_default c).After-residues_from-drawn).bytpcs (p (goal.at.returns-in_default c).After-residues_from-drawn).d3 bytes.some_bytpcs _ (answered at ∙ ap (onward (seed (goal.at.returns-in_default c).After-residues_from-drawn)) told) in
+    let none = answer_refusal (p (goal.at.returns-in_default c).After-residues_from-drawn) (initial (seed (goal.at.returns-in_default c).After-residues_from-drawn)) (p (goal.at.returns-in_default c).After-residues_from-drawn).bytpcs (p (goal.at.returns-in_default c).After-residues_from-drawn).d3 bytes.some_bytpcs _ (answered (goal.at.returns-in_default c).After-residues_from-drawn ∙ ap (onward (seed (goal.at.returns-in_default c).After-residues_from-drawn)) told) in
     let five = c.refusal_of.ensures ∙ ap refused_by told ∙ none.0 in
     let call = refused_call _ _ (secret_refused (p (goal.at.returns-in_default c).After-residues_from-drawn) (seed (goal.at.returns-in_default c).After-residues_from-drawn) none.1) in record { answer = ap (λ (k : ℕ). refused k 0) five ∙ call.0; read = call.1 }
 
@@ -106,7 +105,7 @@ pub returns : goal.returns
 returns c =
     let ct = c.args.ciphertext.now in
     let told = c.in-Counter.is in
-    let found = secret at told in let whole = accepted_call _ _ (secret_taken (p (goal.at.returns c).After-residues_from-drawn) (seed (goal.at.returns c).After-residues_from-drawn) found.xs found.drawn_is).0
+    let found = secret (goal.at.returns c).After-residues_from-drawn told in let whole = accepted_call _ _ (secret_taken (p (goal.at.returns c).After-residues_from-drawn) (seed (goal.at.returns c).After-residues_from-drawn) found.xs found.drawn_is).0
     (c.read.ensures
-    ∙ ap (λ (l : List ℕ). decrypted_message_from (p (goal.at.returns c).After-residues_from-drawn) l ct) (stored at told)
+    ∙ ap (λ (l : List ℕ). decrypted_message_from (p (goal.at.returns c).After-residues_from-drawn) l ct) (stored (goal.at.returns c).After-residues_from-drawn told)
     ∙ opened_message (p (goal.at.returns c).After-residues_from-drawn) (seed (goal.at.returns c).After-residues_from-drawn) ct) in record { answer = whole.0; read = whole.1 }

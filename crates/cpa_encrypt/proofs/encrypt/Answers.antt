@@ -42,7 +42,7 @@ seed_fits c = omega (arith, (ends c.args.p c.requires.1).seed_fits, c.requires.2
 
 pub returns-then-not-load : goal.returns-then-not-load
 returns-then-not-load c =
-    let from = at in let whole = refused_call _ _ (numbers_refused from.args.p from.args.key.now (sym c.load.ensures.answer ∙ c.if-not-load.true)) in record { answer = whole.0; sealed = whole.1 }
+    let whole = refused_call _ _ (numbers_refused c.args.p c.args.key.now (sym c.load.ensures.answer ∙ c.if-not-load.true)) in record { answer = whole.0; sealed = whole.1 }
 
 pub slice_bounds-encrypt_numbers-end : goal.slice_bounds-encrypt_numbers-end
 slice_bounds-encrypt_numbers-end c = omega (arith, seed_fits (goal.at.slice_bounds-encrypt_numbers-end c).Start)
@@ -58,25 +58,23 @@ slice_bounds-encrypt_numbers-end-3 c = omega (arith, c.load.auto.work, fits (goa
 
 pub encrypt_numbers-requires : goal.encrypt_numbers-requires
 encrypt_numbers-requires c =
-    let from = at in
-    let p = from.args.p in
-    let pre = from.pre in
+    let p = c.args.p in
+    let pre = c.requires in
     let held = c.load.ensures.held in
-    let all = sym c.load.ensures.answer ∙ not-false _ c.if-not-load.false in (
+    let all = sym c.load.ensures.answer ∙ c.if-not-load.false in (
       pre.0,
       pre.1,
-      front_length from.args.key.now 32 (seed_fits from),
-      subst (KeyResidues p) (sym (held_numbers p from.args.key.now from.args.seed.now _ held)) (key_residues p from.args.key.now all),
-      drawn_multipliers p pre.1 from.args.seed.now _
-          (held_multipliers p from.args.key.now from.args.seed.now _ held _ c.multiplier_count.ensures),
+      front_length c.args.key.now 32 (seed_fits (goal.at.encrypt_numbers-requires c).Start),
+      subst (KeyResidues p) (sym (held_numbers p c.args.key.now c.args.seed.now _ held)) (key_residues p c.args.key.now all),
+      drawn_multipliers p pre.1 c.args.seed.now _
+          (held_multipliers p c.args.key.now c.args.seed.now _ held _ c.multiplier_count.ensures),
       pre.5,
     )
 
 pub returns : goal.returns
 returns c =
-    let from = at in
-    let p = from.args.p in
+    let p = c.args.p in
     let held = c.load.ensures.held in
-    let sealed = c.encrypt_numbers.ensures in let whole = draws_decide p from.args.key.now from.args.message.now from.args.seed.now _ _ _ _ _
-    (sym c.load.ensures.answer ∙ not-false _ c.if-not-load.false) (held_numbers p from.args.key.now from.args.seed.now _ held)
-    (held_multipliers p from.args.key.now from.args.seed.now _ held _ c.multiplier_count.ensures) sealed.answer sealed.sealed in record { answer = whole.0; sealed = whole.1 }
+    let sealed = c.encrypt_numbers.ensures in let whole = draws_decide p c.args.key.now c.args.message.now c.args.seed.now _ _ _ _ _
+    (sym c.load.ensures.answer ∙ c.if-not-load.false) (held_numbers p c.args.key.now c.args.seed.now _ held)
+    (held_multipliers p c.args.key.now c.args.seed.now _ held _ c.multiplier_count.ensures) sealed.answer sealed.sealed in record { answer = whole.0; sealed = whole.1 }

@@ -41,7 +41,7 @@ front_size c = front_length (lent c) c.packed_bytes-middle.result (fits c)
 pub encrypt_first-first-requires : goal.encrypt_first-first-requires
 encrypt_first-first-requires c =
     let pre = c.requires in
-    (pre.0, pre.1, pre.2, pre.4, front_size at ∙ c.packed_bytes-middle.ensures ∙ (ends c.args.p pre.1).first_is)
+    (pre.0, pre.1, pre.2, pre.4, front_size (goal.at.encrypt_first-first-requires c).After-packed_bytes-middle ∙ c.packed_bytes-middle.ensures ∙ (ends c.args.p pre.1).first_is)
 
 -- the first part has its length, and so has the whole ciphertext after it is written
 first_size : (c : After-encrypt_first-first) → length c.encrypt_first-first.new.out ≡ c.packed_bytes-middle.result
@@ -71,7 +71,7 @@ encrypt_second-requires c =
       pre.3,
       pre.4,
       rest_length (written (goal.at.encrypt_second-requires c).After-encrypt_first-first) bytes.result (second_bytes p)
-          (whole_size at ∙ pre.5 ∙ ending.whole_is ∙ ap (λ (n : ℕ). n + second_bytes p) (sym (bytes.ensures ∙ ending.first_is))),
+          (whole_size (goal.at.encrypt_second-requires c).After-encrypt_first-first ∙ pre.5 ∙ ending.whole_is ∙ ap (λ (n : ℕ). n + second_bytes p) (sym (bytes.ensures ∙ ending.first_is))),
     )
 
 pub returns-in_default : goal.returns-in_default

@@ -78,7 +78,7 @@ read_size : (c : After-read_key-below) → length (written c) ≡ length c.args.
 read_size c = back_length c.args.work.now c.read_key-below.new.numbers (keys (goal.at.After-read_key-below c).Start) (numbers_size c) (omega (arith, fits (goal.at.After-read_key-below c).After-multiplier_count))
 
 pub slice_bounds-multipliers_from-end : goal.slice_bounds-multipliers_from-end
-slice_bounds-multipliers_from-end c = omega (arith, read_size at, fits (goal.at.slice_bounds-multipliers_from-end c).After-multiplier_count)
+slice_bounds-multipliers_from-end c = omega (arith, read_size (goal.at.slice_bounds-multipliers_from-end c).After-read_key-below, fits (goal.at.slice_bounds-multipliers_from-end c).After-multiplier_count)
 
 -- the part of the multipliers
 multipliers_size : (c : After-read_key-below) → let from = keys (goal.at.After-read_key-below c).Start in
@@ -89,13 +89,12 @@ multipliers_size c =
 
 pub multipliers_from-requires : goal.multipliers_from-requires
 multipliers_from-requires c =
-    let from = at in
     let count = c.multiplier_count.result in
-    let left : keys from + count - keys from ≡ count = omega arith in (
-      listed_rules from.args.p from.pre.1,
-      from.pre.0,
-      omega (arith, from.pre.3),
-      multipliers_size at ∙ left ∙ c.multiplier_count.ensures,
+    let left : keys (goal.at.multipliers_from-requires c).Start + count - keys (goal.at.multipliers_from-requires c).Start ≡ count = omega arith in (
+      listed_rules c.args.p c.requires.1,
+      c.requires.0,
+      omega (arith, c.requires.3),
+      multipliers_size (goal.at.multipliers_from-requires c).After-read_key-below ∙ left ∙ c.multiplier_count.ensures,
     )
 
 -- the multipliers fill their part
@@ -105,5 +104,5 @@ drawn_size c = c.multipliers_from.auto.out ∙ multipliers_size (goal.at.After-m
 
 pub returns : goal.returns
 returns c =
-    let from = at in record { answer = sym (checked (goal.at.returns c).After-read_key-below); held = loaded from.args.p from.args.key.now from.args.seed.now from.args.work.now _ _ _ c.multiplier_count.ensures
+    record { answer = sym (checked (goal.at.returns c).After-read_key-below); held = loaded c.args.p c.args.key.now c.args.seed.now c.args.work.now _ _ _ c.multiplier_count.ensures
           (numbers_size (goal.at.returns c).After-read_key-below) (drawn_size (goal.at.returns c).After-multipliers_from) (numbers_are (goal.at.returns c).After-read_key-below) c.multipliers_from.ensures }

@@ -44,24 +44,22 @@ slice_bounds-second_numbers-end-2 c = omega (arith, c.load.auto.work, fits (goal
 
 pub second_numbers-requires : goal.second_numbers-requires
 second_numbers-requires c =
-    let from = at in
-    let p = from.args.p in
-    let pre = from.pre in
+    let p = c.args.p in
+    let pre = c.requires in
     let held = c.load.ensures.held in (
       pre.0,
       pre.1,
-      subst (KeyResidues p) (sym (held_numbers p from.args.key.now from.args.seed.now _ held)) (key_residues p from.args.key.now pre.3),
-      drawn_multipliers p pre.1 from.args.seed.now _
-          (held_multipliers p from.args.key.now from.args.seed.now _ held _ c.multiplier_count.ensures),
+      subst (KeyResidues p) (sym (held_numbers p c.args.key.now c.args.seed.now _ held)) (key_residues p c.args.key.now pre.3),
+      drawn_multipliers p pre.1 c.args.seed.now _
+          (held_multipliers p c.args.key.now c.args.seed.now _ held _ c.multiplier_count.ensures),
       pre.5,
     )
 
 pub returns : goal.returns
 returns c =
-    let from = at in
-    let p = from.args.p in
+    let p = c.args.p in
     let held = c.load.ensures.held in
     c.second_numbers.ensures
-    ∙ sums_sealed p from.args.key.now from.args.message.now from.args.seed.now _ _
-    (held_numbers p from.args.key.now from.args.seed.now _ held)
-    (held_multipliers p from.args.key.now from.args.seed.now _ held _ c.multiplier_count.ensures)
+    ∙ sums_sealed p c.args.key.now c.args.message.now c.args.seed.now _ _
+    (held_numbers p c.args.key.now c.args.seed.now _ held)
+    (held_multipliers p c.args.key.now c.args.seed.now _ held _ c.multiplier_count.ensures)

@@ -54,10 +54,8 @@ copy_at-requires c =
 
 pub returns-in_default : goal.returns-in_default
 returns-in_default c =
-    let seeds = at in
-    let begun = seeds in
     let told = ap outcome c.in_default.is in
-    let decided = draws_decide begun.args.p begun.args.seed.now _ _ (first_is seeds) (second_is seeds) c.store_key-stored.ensures.answer ∙ told in record { answer = told ∙ sym decided; public = sym (leaves_refused _ _ decided); secret = sym (leaves_refused _ _ decided) }
+    let decided = draws_decide c.args.p c.args.seed.now _ _ (first_is (goal.at.returns-in_default c).After-source_bytes) (second_is (goal.at.returns-in_default c).After-source_bytes) c.store_key-stored.ensures.answer ∙ told in record { answer = told ∙ sym decided; public = sym (leaves_refused _ _ decided); secret = sym (leaves_refused _ _ decided) }
 
 pub returns : goal.returns
 returns c =

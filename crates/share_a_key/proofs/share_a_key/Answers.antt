@@ -3,7 +3,7 @@
 use mathlib.Core.Path.{◌≡◌, sym, ap, ◌∙◌}
 use Rattle.calls.specs.Outcome.{outcome, accepted}
 use Rattle.sets.specs.Derived.{is_exchange}
-use Rattle.share_a_key.specs.Answers.{share_aKey_checked}
+use Rattle.share_a_key.specs.Answers.{share_a_key_checked}
 use Rattle.share_a_key.proofs.ShareAKey.{all_fit, checks_refuse, key_refuses, all_accept}
 use Rattle.share_a_key.proofs.share_a_key.Goals.{In-Done}
 use Rattle.share_a_key.proofs.share_a_key.Goals as goal
@@ -15,11 +15,11 @@ round_trip_checked-checked-requires c = c.parameters_of.ensures
 passed : (c : In-Done) → let args = c.args in
     all_fit args.set args.seed.now args.message.now args.public.now args.secret.now args.sealed.now
     args.sent.now args.received.now args.work.now ≡ accepted
-unfolding is_exchange share_aKey_checked
+unfolding is_exchange share_a_key_checked
 passed c = sym c.round_trip_checked-checked.ensures ∙ ap outcome c.in-Done.is
 
 pub returns-in_default : goal.returns-in_default
-unfolding is_exchange share_aKey_checked
+unfolding is_exchange share_a_key_checked
 returns-in_default c =
     let args = c.args in let whole = checks_refuse args.set args.seed.now args.message.now args.public.now args.secret.now args.sealed.now
     args.sent.now args.received.now args.work.now

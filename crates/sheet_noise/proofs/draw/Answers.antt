@@ -60,21 +60,19 @@ part_size c =
 
 pub multipliers_from-requires : goal.multipliers_from-requires
 multipliers_from-requires c =
-    let begun = at in (
-      listed_rules begun.args.p begun.pre.1,
-      begun.pre.0,
-      omega (arith, begun.pre.3),
-      part_size at ∙ c.multiplier_count.ensures,
+    (
+      listed_rules c.args.p c.requires.1,
+      c.requires.0,
+      omega (arith, c.requires.3),
+      part_size (goal.at.multipliers_from-requires c).After-draw_errors ∙ c.multiplier_count.ensures,
     )
 
 pub returns : goal.returns
 returns c =
-    let counts = at in
-    let begun = counts in
     let made = c.multipliers_from in
-    let sealing = begun.args.sealing.now in
-    multipliers_written begun.args.p begun.args.secret.now sealing _ made.new.out (errors counts)
-    (errors counts + multipliers counts)
-    (start_is counts) (omega (arith, count_is counts)) (made.auto.out ∙ part_size at ∙ count_is counts)
-    (omega (arith, c.draw_errors.auto.work, fits counts)) c.draw_errors.ensures
+    let sealing = c.args.sealing.now in
+    multipliers_written c.args.p c.args.secret.now sealing _ made.new.out (errors (goal.at.returns c).After-multiplier_count)
+    (errors (goal.at.returns c).After-multiplier_count + multipliers (goal.at.returns c).After-multiplier_count)
+    (start_is (goal.at.returns c).After-multiplier_count) (omega (arith, count_is (goal.at.returns c).After-multiplier_count)) (made.auto.out ∙ part_size (goal.at.returns c).After-draw_errors ∙ count_is (goal.at.returns c).After-multiplier_count)
+    (omega (arith, c.draw_errors.auto.work, fits (goal.at.returns c).After-multiplier_count)) c.draw_errors.ensures
     made.ensures

@@ -58,21 +58,19 @@ slice_bounds-residues_from-end c = omega (arith, secret_fits c)
 
 pub residues_from-requires : goal.residues_from-requires
 residues_from-requires c =
-    let all = kept at in record { rules = (all, omega (arith, c.requires.2), c.requires.0.some_bytpcs, c.requires.0.most_bytpcs); out_nonzero = (omega (arith, secret_part at, all.some_n, all.some_d, all.some_k, all.holds3), omega (arith, secret_part at, all.most_d3)) }
+    let all = kept (goal.at.residues_from-requires c).After-error_count-count in record { rules = (all, omega (arith, c.requires.2), c.requires.0.some_bytpcs, c.requires.0.most_bytpcs); out_nonzero = (omega (arith, secret_part (goal.at.residues_from-requires c).After-error_count-count, all.some_n, all.some_d, all.some_k, all.holds3), omega (arith, secret_part (goal.at.residues_from-requires c).After-error_count-count, all.most_d3)) }
 
 pub returns-in_default : goal.returns-in_default
 returns-in_default c =
-    let begun = at in
-    let secret = begun.args.secret.now in
+    let secret = c.args.secret.now in
     let answer = sym (ap (onward secret) c.in_default.is) ∙ c.residues_from.ensures.answer in
     absurd
-    (never_refused begun.args.p secret _ (secret_part (goal.at.returns-in_default c).After-error_count-count)
-    begun.pre.0.some_bytpcs _ answer begun.pre.3)
+    (never_refused c.args.p secret _ (secret_part (goal.at.returns-in_default c).After-error_count-count)
+    c.requires.0.some_bytpcs _ answer c.requires.3)
 
 -- the state that the draw of the secret leaves
 state_is : (c : In-Counter) → state_at c.args.secret.now c.in-Counter.counter ≡ secret_state c.args.p c.args.secret.now
 state_is c =
-    let begun = at in
     let secret = c.args.secret.now in
     secret_state_lem c.args.p secret _ (secret_part (goal.at.In-Counter c).After-error_count-count) _
     (sym (ap (onward secret) c.in-Counter.is) ∙ c.residues_from.ensures.answer)
@@ -84,7 +82,7 @@ kept_length c =
     (c.residues_from.auto.out ∙ secret_part (goal.at.After-residues_from c).After-error_count-count) (secret_fits (goal.at.After-residues_from c).After-error_count-count)
 
 pub slice_bounds-errors_from-end : goal.slice_bounds-errors_from-end
-slice_bounds-errors_from-end c = omega (arith, kept_length at, errors_fit (goal.at.slice_bounds-errors_from-end c).After-error_count-count)
+slice_bounds-errors_from-end c = omega (arith, kept_length (goal.at.slice_bounds-errors_from-end c).After-residues_from, errors_fit (goal.at.slice_bounds-errors_from-end c).After-error_count-count)
 
 -- the part of the errors
 errors_size : (c : After-residues_from)
@@ -93,17 +91,15 @@ errors_size c = front_length (work_after c) c.error_count-count.result (omega (a
 
 pub errors_from-requires : goal.errors_from-requires
 errors_from-requires c =
-    let begun = at in
-    let small = secret_state_small (p (goal.at.errors_from-requires c).After-error_count-count) (kept (goal.at.errors_from-requires c).After-error_count-count) begun.pre.0 begun.args.secret.now in
-    let counter = ap (λ (s : State). s.counter) (state_is (goal.at.errors_from-requires c).In-Counter) in record { rules = (kept at, begun.pre.0, omega (arith, begun.pre.2), errors_size at ∙ c.error_count-count.ensures.0); p_bound = omega (arith, small, counter, begun.pre.0.most_error_bytes) }
+    let small = secret_state_small (p (goal.at.errors_from-requires c).After-error_count-count) (kept (goal.at.errors_from-requires c).After-error_count-count) c.requires.0 c.args.secret.now in
+    let counter = ap (λ (s : State). s.counter) (state_is (goal.at.errors_from-requires c).In-Counter) in record { rules = (kept (goal.at.errors_from-requires c).After-error_count-count, c.requires.0, omega (arith, c.requires.2), errors_size (goal.at.errors_from-requires c).After-residues_from ∙ c.error_count-count.ensures.0); p_bound = omega (arith, small, counter, c.requires.0.most_error_bytes) }
 
 pub returns : goal.returns
 unfolding errors
 returns c =
-    let begun = at in
-    let o = begun.args.p in
+    let o = c.args.p in
     let made = c.errors_from in
-    let secret = begun.args.secret.now in
+    let secret = c.args.secret.now in
     errors_written o secret (work_after (goal.at.returns c).After-residues_from) made.new.out c.error_count-count.result
-    (made.auto.out ∙ errors_size at ∙ c.error_count-count.ensures.0)
+    (made.auto.out ∙ errors_size (goal.at.returns c).After-residues_from ∙ c.error_count-count.ensures.0)
     (made.ensures ∙ ap (λ (s : State). map (residue o.q) (errors_drawn o s)) (state_is (goal.at.returns c).In-Counter))

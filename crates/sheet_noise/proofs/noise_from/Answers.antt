@@ -93,18 +93,16 @@ errors_size c = front_length c.draw.new.work (error_total (goal.at.After-draw c)
 
 pub fill-requires : goal.fill-requires
 fill-requires c =
-    let counts = at in
-    let begun = counts in
-    let p = begun.args.p in
-    let pre = begun.pre in
+    let p = c.args.p in
+    let pre = c.requires in
     let kept = listed_rules p pre.1 in
     let positive : 0 < p.q = omega (arith, kept.prime.above) in
-    let drawn_multipliers = map_residues p.q (multipliers_drawn p begun.args.sealing.now) positive in
-    let drawn-errors = map_residues p.q (errors p begun.args.secret.now) positive in (
+    let drawn_multipliers = map_residues p.q (multipliers_drawn p c.args.sealing.now) positive in
+    let drawn-errors = map_residues p.q (errors p c.args.secret.now) positive in (
       kept,
       pre.0,
-      multipliers_size at ∙ counts.multiplier-count.ensures,
-      errors_size at ∙ counts.error-count.ensures.0,
+      multipliers_size (goal.at.fill-requires c).After-draw ∙ c.multiplier_count.ensures,
+      errors_size (goal.at.fill-requires c).After-draw ∙ c.error_count-start.ensures.0,
       subst (Residues p.q) (sym (multipliers_are (goal.at.fill-requires c).After-draw)) drawn_multipliers,
       subst (Residues p.q) (sym (errors_are (goal.at.fill-requires c).After-draw)) drawn-errors,
       pre.5,
@@ -114,8 +112,7 @@ fill-requires c =
 
 pub returns : goal.returns
 returns c =
-    let begun = at in
-    let before = begun.args.before.now in
+    let before = c.args.before.now in
     c.fill.ensures
-    ∙ noise_drawn begun.args.p begun.pre.0 begun.pre.1 begun.args.secret.now begun.args.sealing.now _ _ before (multipliers_are (goal.at.returns c).After-draw)
+    ∙ noise_drawn c.args.p c.requires.0 c.requires.1 c.args.secret.now c.args.sealing.now _ _ before (multipliers_are (goal.at.returns c).After-draw)
     (errors_are (goal.at.returns c).After-draw)

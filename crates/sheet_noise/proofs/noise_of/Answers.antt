@@ -18,6 +18,5 @@ noise_with_buffers-requires c =
 
 pub returns : goal.returns
 returns c =
-    let begun = at in
     let made = c.noise_with_buffers.ensures in
-    let args = begun.args in record { values = made; sizes = noise_small args.p begun.pre.0 begun.pre.1 args.seed.now args.message.now args.sealing.now _ made }
+    let args = c.args in record { values = made; sizes = noise_small args.p c.requires.0 c.requires.1 args.seed.now args.message.now args.sealing.now _ made }

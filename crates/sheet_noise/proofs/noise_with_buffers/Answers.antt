@@ -41,16 +41,15 @@ secret_is c =
 
 pub noise_from-requires : goal.noise_from-requires
 noise_from-requires c =
-    let begun = at in
-    let p = begun.args.p in
-    let pre = begun.pre in
+    let p = c.args.p in
+    let pre = c.requires in
     let made = c.numbers_before_packing in (
       pre.0,
       pre.1,
       c.source_bytes.auto.out ∙ pre.9,
       pre.4,
       ap (λ (xs : List ℕ). is_taken (secret_drawn p xs)) (secret_is (goal.at.noise_from-requires c).After-source_bytes) ∙ pre.6,
-      before_residues p pre.0 pre.1 begun.args.seed.now begun.args.message.now begun.args.sealing.now begun.args.public.now _
+      before_residues p pre.0 pre.1 c.args.seed.now c.args.message.now c.args.sealing.now c.args.public.now _
           made.ensures,
       made.auto.out ∙ pre.10,
       pre.7,
@@ -59,8 +58,7 @@ noise_from-requires c =
 
 pub returns : goal.returns
 returns c =
-    let begun = at in
-    let pre = begun.pre in
+    let pre = c.requires in
     c.noise_from.ensures
-    ∙ noise_places begun.args.p pre.0 pre.1 begun.args.seed.now begun.args.message.now begun.args.sealing.now _ _
-    begun.args.public.now (secret_is (goal.at.returns c).After-source_bytes) pre.5 c.numbers_before_packing.ensures
+    ∙ noise_places c.args.p pre.0 pre.1 c.args.seed.now c.args.message.now c.args.sealing.now _ _
+    c.args.public.now (secret_is (goal.at.returns c).After-source_bytes) pre.5 c.numbers_before_packing.ensures

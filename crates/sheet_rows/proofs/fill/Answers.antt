@@ -53,11 +53,10 @@ slice_bounds-seeded_rows-end-4 c = omega (arith, room (goal.at.slice_bounds-seed
 
 pub seeded_rows-requires : goal.seeded_rows-requires
 seeded_rows-requires c =
-    let start = at in
-    let pre = start.pre in
-    let input = start.args.input.now in
-    let size = long at in
-    let set = start.args.set in
+    let pre = c.requires in
+    let input = c.args.input.now in
+    let size = long (goal.at.seeded_rows-requires c).After-work_length-size in
+    let set = c.args.set in
     let low = sheet_set set pre.0 in (
       byte_rules_of set low _ pre.6 c.if-set-lt1.false,
       record { set = set; is_set = low; listed = pre.6 },
@@ -67,10 +66,10 @@ seeded_rows-requires c =
       pre.2,
       pre.3,
       pre.4,
-      front_length start.args.work.now c.work_length-size.result (room (goal.at.seeded_rows-requires c).After-work_length-size) ∙ c.work_length-size.ensures,
+      front_length c.args.work.now c.work_length-size.result (room (goal.at.seeded_rows-requires c).After-work_length-size) ∙ c.work_length-size.ensures,
     )
 
 pub returns : goal.returns
 returns c =
-    let start = at in let whole = seeded_filled start.args.set start.args.p start.args.input.now _ _ _ _ c.if-set-lt1.false start.pre.6
+    let whole = seeded_filled c.args.set c.args.p c.args.input.now _ _ _ _ c.if-set-lt1.false c.requires.6
     c.seeded_rows.ensures.answer c.seeded_rows.ensures.rows in record { answer = whole.0; rows = whole.1 }

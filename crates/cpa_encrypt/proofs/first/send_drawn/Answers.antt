@@ -50,9 +50,8 @@ answered c = c.residues_from-drawn.ensures.answer ∙ answer_whole c.args.p (sta
 
 pub returns-in_default : goal.returns-in_default
 returns-in_default c =
-    let begun = at in
-    let told = sym c.residues_from-drawn.ensures.answer ∙ ap (onward begun.args.seed.now) c.in_default.is in
-    let none = drawn_refused begun.args.p (state begun) _ (front_size begun) begun.pre.0.some_bytpca _ told in record { answer = answered at; result = λ xs u. absurd (none xs u) }
+    let told = sym c.residues_from-drawn.ensures.answer ∙ ap (onward c.args.seed.now) c.in_default.is in
+    let none = drawn_refused c.args.p (state (goal.at.returns-in_default c).Start) _ (front_size (goal.at.returns-in_default c).Start) c.requires.0.some_bytpca _ told in record { answer = answered (goal.at.returns-in_default c).After-residues_from-drawn; result = λ xs u. absurd (none xs u) }
 
 pub returns : goal.returns
 returns c =

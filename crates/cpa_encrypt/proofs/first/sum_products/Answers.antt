@@ -32,21 +32,18 @@ send_multipliers-requires c =
 
 pub send_drawn-drawn-requires : goal.send_drawn-drawn-requires
 send_drawn-drawn-requires c =
-    let from = at in
-    let pre = from.pre in
+    let pre = c.requires in
     let inv = c.loop-i.invariant in
-    let small = counter_small from.args.p pre.1 from.args.seed.now from.args.multipliers.now pre.0 inv.within inv.reached in
+    let small = counter_small c.args.p pre.1 c.args.seed.now c.args.multipliers.now pre.0 inv.within inv.reached in
     (pre.0, pre.1, pre.4, pre.2, small, inv.y_size)
 
 pub returns-in_default : goal.returns-in_default
 returns-in_default c =
-    let tested = at in
-    let from = tested in
-    let this = tested.loop in
+    let this = c.loop-i in
     let refusal = c.in_default.is in
     let none =
-    polynomial_refused from.args.p from.pre.1 from.args.seed.now from.args.multipliers.now _ this.i this.inv.reached _ from.pre.0
-    (turn_below tested) (sym c.send_drawn-drawn.ensures.answer ∙ ap (onward from.args.seed.now) refusal) in
+    polynomial_refused c.args.p c.requires.1 c.args.seed.now c.args.multipliers.now _ this.i this.invariant.reached _ c.requires.0
+    (turn_below (goal.at.returns-in_default c).In-loop-i) (sym c.send_drawn-drawn.ensures.answer ∙ ap (onward c.args.seed.now) refusal) in
     let answer = ap (λ (k : ℕ). refused k 0) (c.refusal_of.ensures ∙ ap refused_by refusal) in record { answer = answer ∙ none; result = λ e. absurd (accepted_refused e refl) }
 
 -- the polynomial of a turn is drawn and sent
@@ -60,10 +57,8 @@ sent_here c =
 
 pub accumulate-requires : goal.accumulate-requires
 accumulate-requires c =
-    let tested = at in
-    let from = tested in
-    adding_addends from.args.p from.pre.1 from.args.seed.now from.args.multipliers.now tested.negated-inverse.ensures
-    tested.loop.inv c.send_multipliers.ensures (sent_here (goal.at.accumulate-requires c).In-Counter).y_is
+    adding_addends c.args.p c.requires.1 c.args.seed.now c.args.multipliers.now c.negated_inverse-k.ensures
+    c.loop-i.invariant c.send_multipliers.ensures (sent_here (goal.at.accumulate-requires c).In-Counter).y_is
 
 pub overflow_add-i : goal.overflow_add-i
 overflow_add-i c =
@@ -74,11 +69,9 @@ loop-i-smaller c = omega (arith, c.loop-i-test.true)
 
 pub loop-i-preserved : goal.loop-i-preserved
 loop-i-preserved c =
-    let tested = at in
-    let from = tested in
-    adding_more from.args.p from.pre.1 from.args.seed.now from.args.multipliers.now _ _ _ _ tested.loop.inv (turn_below tested)
+    adding_more c.args.p c.requires.1 c.args.seed.now c.args.multipliers.now _ _ _ _ c.loop-i.invariant (turn_below (goal.at.loop-i-preserved c).In-loop-i)
     (sent_here (goal.at.loop-i-preserved c).In-Counter) c.send_multipliers.ensures c.accumulate.ensures
 
 pub returns : goal.returns
 returns c =
-    let from = at in let whole = adding_all from.args.p from.pre.1 from.args.seed.now from.args.multipliers.now c.loop-i.invariant (omega (arith, c.loop-i-test.false)) in record { answer = whole.0; result = whole.1 }
+    let whole = adding_all c.args.p c.requires.1 c.args.seed.now c.args.multipliers.now c.loop-i.invariant (omega (arith, c.loop-i-test.false)) in record { answer = whole.0; result = whole.1 }

@@ -59,10 +59,8 @@ slice_bounds-accumulate-end c =
 
 pub accumulate-requires : goal.accumulate-requires
 accumulate-requires c =
-    let tested = at in
-    let from = tested in
-    correlating_addends from.args.p from.pre.0 from.args.numbers.now from.args.multipliers.now tested.negated-inverse.ensures
-    from.pre.1 tested.loop.inv (turn_below tested) c.send_multipliers.ensures (turn_part tested)
+    correlating_addends c.args.p c.requires.0 c.args.numbers.now c.args.multipliers.now c.negated_inverse-k.ensures
+    c.requires.1 c.loop-i.invariant (turn_below (goal.at.accumulate-requires c).In-loop-i) c.send_multipliers.ensures (turn_part (goal.at.accumulate-requires c).In-loop-i)
 
 pub overflow_add-i : goal.overflow_add-i
 overflow_add-i c =
@@ -73,12 +71,9 @@ loop-i-smaller c = omega (arith, c.loop-i-test.true)
 
 pub loop-i-preserved : goal.loop-i-preserved
 loop-i-preserved c =
-    let tested = at in
-    let from = tested in
-    correlating_more from.args.p from.pre.0 from.args.numbers.now from.args.multipliers.now _ _ _ tested.loop.inv
-    (turn_below tested) c.send_multipliers.ensures (turn_part tested) c.accumulate.ensures
+    correlating_more c.args.p c.requires.0 c.args.numbers.now c.args.multipliers.now _ _ _ c.loop-i.invariant
+    (turn_below (goal.at.loop-i-preserved c).In-loop-i) c.send_multipliers.ensures (turn_part (goal.at.loop-i-preserved c).In-loop-i) c.accumulate.ensures
 
 pub returns : goal.returns
 returns c =
-    let from = at in
-    correlating_all from.args.p from.pre.0 from.args.numbers.now from.args.multipliers.now c.loop-i.invariant (omega (arith, c.loop-i-test.false))
+    correlating_all c.args.p c.requires.0 c.args.numbers.now c.args.multipliers.now c.loop-i.invariant (omega (arith, c.loop-i-test.false))

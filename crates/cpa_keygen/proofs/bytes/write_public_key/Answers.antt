@@ -54,17 +54,16 @@ pack_into-requires c =
 pub returns : goal.returns
 unfolding public_key_bytes_of
 returns c =
-    let begun = at in
-    let p = begun.args.p in
-    let pre = begun.pre.0 in
+    let p = c.args.p in
+    let pre = c.requires.byte_rules in
     let copied = c.copy_at in
     let packed = c.pack_into in
     let bytes = packed_bytes_of (p.d1 * p.t) p.width in
     let room : length copied.new.dst ≡ 32 + bytes = copied.auto.dst ∙ pre.4 in
     let rest : length (take (length copied.new.dst - 32) (drop 32 copied.new.dst)) ≡ bytes =
     part_length copied.new.dst 32 (length copied.new.dst) bytes room (omega arith) in
-    let made : packed.new.out ≡ pack p.width bytes (region begun.args.work.now (vectors_start_of p) (p.d1 * p.t)) =
-    rw (vectors_part at, rest) at packed.ensures in
-    two_parts begun.args.out.now copied.new.dst begun.args.seed.now packed.new.out 32 copied.ensures pre.2
+    let made : packed.new.out ≡ pack p.width bytes (region c.args.work.now (vectors_start_of p) (p.d1 * p.t)) =
+    rw (vectors_part (goal.at.returns c).After-vectors_end-end, rest) at packed.ensures in
+    two_parts c.args.out.now copied.new.dst c.args.seed.now packed.new.out 32 copied.ensures pre.2
     (pre.4 ∙ ap (λ (n : ℕ). 32 + n) (sym (ap length made ∙ pack_length p.width _ _)))
     ∙ rw made

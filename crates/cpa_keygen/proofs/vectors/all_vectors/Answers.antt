@@ -23,43 +23,39 @@ loop-i-init c =
 
 pub next_vector-drawn-requires : goal.next_vector-drawn-requires
 next_vector-drawn-requires c =
-    let from = at in
-    let pre = from.pre in
-    let p = from.args.p in
+    let pre = c.requires in
+    let p = c.args.p in
     let held =
-    held_still p pre.0 pre.1 from.args.seed.now from.args.work.now pre.6 c.loop-i.i c.loop-i.counter c.loop-i.work
+    held_still p pre.0 pre.1 c.args.seed.now c.args.work.now pre.6 c.loop-i.i c.loop-i.counter c.loop-i.work
     c.loop-i.invariant.2 in
     (pre.0, pre.1, pre.2, c.loop-i-test.true, c.loop-i.invariant.2.state_is, pre.3, pre.4, c.loop-i.invariant.0 ∙ pre.5, held)
 
 pub returns-in_default : goal.returns-in_default
 returns-in_default c =
-    let from = at in
-    let p = from.args.p in
-    let seed = from.args.seed.now in
+    let p = c.args.p in
+    let seed = c.args.seed.now in
     let i = c.loop-i.i in
     let told = c.in_default.is in
     let none =
-    stopped _ _ (public_drawn p seed i) (λ xs run. public_never_ends p from.pre.0 seed xs run i)
+    stopped _ _ (public_drawn p seed i) (λ xs run. public_never_ends p c.requires.0 seed xs run i)
     (sym (ap (onward seed) told) ∙ c.next_vector-drawn.ensures.answer) in
     let one = all_taken_false p.t (public_drawn p seed) i (below (goal.at.returns-in_default c).After-next_vector-drawn) none.not_taken in record { answer = refuse_not_taken accepted one (c.refusal_of.ensures ∙ ap refused_by told ∙ none.five); result = λ t. absurd (true_false t one) }
 
 pub overflow_add-i : goal.overflow_add-i
 overflow_add-i c =
-    let from = at in
-    record { fits = omega (arith, below at, (listed_rules from.args.p from.pre.1).most_t) }
+    record { fits = omega (arith, below (goal.at.overflow_add-i c).After-next_vector-drawn, (listed_rules c.args.p c.requires.1).most_t) }
 
 pub loop-i-preserved : goal.loop-i-preserved
 loop-i-preserved c =
-    let from = at in
-    let pre = from.pre in
-    let p = from.args.p in
-    let seed = from.args.seed.now in
+    let pre = c.requires in
+    let p = c.args.p in
+    let seed = c.args.seed.now in
     let this = c.loop-i in
     let vector = c.next_vector-drawn in
     let drawn = advanced _ _ (public_drawn p seed this.i) (sym (ap (onward seed) c.in-Counter.is) ∙ vector.ensures.answer) in (
       vector.auto.x ∙ this.invariant.0,
       vector.auto.work ∙ this.invariant.1,
-      vectors_more p pre.0 pre.1 seed from.args.work.now pre.6 this.i this.counter this.work this.invariant.2 _ _ (below (goal.at.loop-i-preserved c).After-next_vector-drawn)
+      vectors_more p pre.0 pre.1 seed c.args.work.now pre.6 this.i this.counter this.work this.invariant.2 _ _ (below (goal.at.loop-i-preserved c).After-next_vector-drawn)
           drawn.all_taken_lem drawn.next_is (vector.ensures.result drawn.all_taken_lem),
     )
 
