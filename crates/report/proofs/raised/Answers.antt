@@ -4,7 +4,6 @@ use mathlib.Core.Path.{◌≡◌}
 use mathlib.Core.Bool.{false}
 use Prim.Native.Nat.{◌^◌, ◌<◌}
 use native.Mathlib.Omega.{arith}
-use borrow.Author.Rules.{rules}
 use borrow.Author.Tests.{ltb-false}
 use lib.IntN.{ℤ, pos, negsuc, nat_abs}
 use lib.Signed.{lt_z}
@@ -12,8 +11,7 @@ use mir.Syntax.{w32}
 use mir.Val.{SFits}
 use mir.ValLaws.{to_z-of_z}
 use Rattle.residues.proofs.Laws.{stored, raise_most, raised_fits, raised_stored}
-use Rattle.report.proofs.raised.Statement.{statement}
-use Rattle.report.proofs.raised.Tie as tie
+use Rattle.report.proofs.raised.Goals as goal
 
 -- a number that is neither above 1,000 nor below −1,000 is small
 bounded : (z : ℤ) → lt_z (pos 1000) z ≡ false → lt_z z (negsuc 999) ≡ false → nat_abs z < 2 ^ 24
@@ -24,22 +22,16 @@ bounded (negsuc n) above below = omega (arith, ltb-false 999 n below)
 small : (z : ℤ) → SFits w32 z → lt_z (pos 1000) (stored z) ≡ false → lt_z (stored z) (negsuc 999) ≡ false → nat_abs z < 2 ^ 24
 small z fits above below = bounded z (rw (to_z-of_z w32 z fits) at above) (rw (to_z-of_z w32 z fits) at below)
 
-add-result : tie.Need-overflow-add-result
-add-result c =
-    let start = c.before.before in
-    raised_fits start.args.x start.ranges.x (small _ start.ranges.x c.before.if1.false c.if2.false)
+pub overflow_add-result : goal.overflow_add-result
+overflow_add-result c =
+    raised_fits c.args.x c.ranges.x (small _ c.ranges.x c.if-x-gt1000.false c.if-x-ltminus1000.false)
 
-cast-result : tie.Need-overflow-cast-result
-cast-result c =
-    let start = c.before.before in
-    let bound = small _ start.ranges.x c.before.if1.false c.if2.false in
-    rw (raised_stored start.args.x start.ranges.x bound) (tt, record { fits = omega (arith, raise_most start.args.x bound) })
+pub overflow_cast-result : goal.overflow_cast-result
+overflow_cast-result c =
+    let bound = small _ c.ranges.x c.if-x-gt1000.false c.if-x-ltminus1000.false in
+    rw (raised_stored c.args.x c.ranges.x bound) (tt, record { fits = omega (arith, raise_most c.args.x bound) })
 
-returns : tie.Need-returns-3
+pub returns : goal.returns
 returns c =
-    let start = c.before.before in
-    let bound = small _ start.ranges.x c.before.if1.false c.if2.false in
-    rw (raised_stored start.args.x start.ranges.x bound) (omega (arith, raise_most start.args.x bound))
-
-pub raised_spec : {M : Type 1} → statement M
-raised_spec = tie.close (tie.spec (λ c. search rules) (λ c. search rules) add-result cast-result returns)
+    let bound = small _ c.ranges.x c.if-x-gt1000.false c.if-x-ltminus1000.false in
+    rw (raised_stored c.args.x c.ranges.x bound) (omega (arith, raise_most c.args.x bound))

@@ -2,14 +2,12 @@
 -- Assumes nothing.
 use Prim.Native.Nat.{ℕ, ◌%◌, ◌^◌, ◌<◌}
 use native.Mathlib.Omega.{arith}
-use borrow.Author.Rules.{rules}
 use lib.IntN.{ℤ, pos, negsuc, neg_ℤ, nat_abs, ◌-ℤ◌, +ℤ_idl}
 use mir.Syntax.{w32}
 use mir.Val.{SFits, to_z}
 use mir.Facts.{to_z_pos}
 use Rattle.maths.proofs.Integer.{nat_abs_neg_ℤ}
-use Rattle.report.proofs.random.negative.Statement.{statement}
-use Rattle.report.proofs.random.negative.Tie as tie
+use Rattle.report.proofs.random.negative.Goals as goal
 
 -- a number of small size fits the signed width
 small_fits : {z : ℤ} → nat_abs z < 2 ^ 31 → SFits w32 z
@@ -22,8 +20,5 @@ opposite_fits n small =
     rw (to_z_pos w32 {n = n} (omega arith), +ℤ_idl (neg_ℤ (pos n)))
     (small_fits (rw (nat_abs_neg_ℤ (pos n)) (omega arith)))
 
-sub-result : tie.Need-overflow-sub-result
-sub-result c = opposite_fits (c.args.x % 4096) (omega arith)
-
-pub negative_spec : {M : Type 1} → statement M
-negative_spec = tie.close (tie.spec (λ c. search rules) sub-result (λ c. search rules))
+pub overflow_sub-result : goal.overflow_sub-result
+overflow_sub-result c = opposite_fits (c.args.x % 4096) (omega arith)

@@ -3,16 +3,11 @@
 use Prim.Native.Nat.{◌+◌, ◌*◌, ◌≤◌}
 use native.Mathlib.Nat.{mul-le-mul}
 use native.Mathlib.Omega.{arith}
-use borrow.Author.Rules.{rules}
-use Rattle.report.proofs.random.squared.Statement.{statement}
-use Rattle.report.proofs.random.squared.Tie as tie
+use Rattle.report.proofs.random.squared.Goals as goal
 
-mul-result-2 : tie.Need-overflow-mul-result-2
-mul-result-2 c =
+pub overflow_mul-result-2 : goal.overflow_mul-result-2
+overflow_mul-result-2 c =
     let x = c.args.x in
     let most : x * (2 * x + 1) ≤ 2147483647 * 4294967295 =
     mul-le-mul {n₁ = x} {m₁ = 2 * x + 1} {n₂ = 2147483647} {m₂ = 4294967295} (omega (arith, c.requires)) (omega (arith, c.requires)) in
     omega (arith, most)
-
-pub squared_spec : {M : Type 1} → statement M
-squared_spec = tie.close (tie.spec (λ c. search rules) (λ c. search rules) mul-result-2 (λ c. search rules))
