@@ -34,6 +34,6 @@ fn main(rt: HostRuntime) -> io::Result<()> {
     let mut text = [0u8; 1024];
     let mut work = [0u32; 22521];
     // no input of a right length fills the buffer, so one that does is of a wrong length
-    let count = read_full(&mut rt.reader(), &mut space)?;
+    let count = read_full(&mut rt.stdin(), &mut space)?;
     print_sheet(&rt, &space[..count], &mut text, &mut work)
 }

@@ -19,7 +19,7 @@ fn with_digit(value: usize, digit: u8) -> usize {
 }
 
 // A number of a script, and the byte that ended it.
-#[derive(Drop)]
+#[derive(Clone, Copy)]
 struct Number {
     value: usize,
     end: u8,
@@ -41,7 +41,7 @@ fn next_number(input: &mut impl Read) -> io::Result<Number> {
 }
 
 // The numbers of a line, at most 16, with zeros after them, or the end of the script.
-#[derive(Drop)]
+#[derive(Clone, Copy)]
 pub struct Line {
     pub values: [usize; 16],
     pub is_end: bool,
@@ -69,7 +69,7 @@ pub fn next_line(input: &mut impl Read) -> io::Result<Line> {
 }
 
 // The first numbers of a line by name, the command's own and ten operands: in a proof a field is read in one step, an entry of an array in several.
-#[derive(Drop)]
+#[derive(Clone, Copy)]
 pub struct Command {
     pub number: usize,
     pub one: usize,

@@ -83,5 +83,5 @@ fn run(
 fn main(rt: HostRuntime) -> io::Result<()> {
     let mut numbers = [0u32; END];
     let mut signed = [0i32; 18500];
-    run(&rt, &mut rt.reader(), &mut numbers, &mut signed)
+    run(&rt, &mut rt.stdin(), &mut numbers, &mut signed)
 }

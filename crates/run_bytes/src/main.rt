@@ -56,5 +56,5 @@ fn run(rt: &impl Print, input: &mut impl Read, bytes: &mut [u8], out: &mut [u8])
 fn main(rt: HostRuntime) -> io::Result<()> {
     let mut bytes = [0u8; 65537];
     let mut out = [0u8; 65537];
-    run(&rt, &mut rt.reader(), &mut bytes, &mut out)
+    run(&rt, &mut rt.stdin(), &mut bytes, &mut out)
 }

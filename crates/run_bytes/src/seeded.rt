@@ -91,15 +91,19 @@ fn multipliers_into(set: usize, seed: &[u8], out: &mut [u32])
 }
 
 // Prints where a draw stands after a block; of a draw that is refused the results are not told.
-fn progress(rt: &impl Print, given: Progress, out: &[u32]) -> io::Result<()> {
-    let Progress::Reached(done, run) = given else {
-        report::text(rt, b" refused")?;
-        return report::number(rt, samplers::block::refusal_of(given) as u64);
-    };
-    report::text(rt, b" reached")?;
-    report::number(rt, done as u64)?;
-    report::number(rt, run as u64)?;
-    report::number_sum(rt, out)
+fn progress(rt: &impl Print, given: &Progress, out: &[u32]) -> io::Result<()> {
+    match given {
+        Progress::Reached(done, run) => {
+            report::text(rt, b" reached")?;
+            report::number(rt, *done as u64)?;
+            report::number(rt, *run as u64)?;
+            report::number_sum(rt, out)
+        }
+        Progress::Refused(number) => {
+            report::text(rt, b" refused")?;
+            report::number(rt, *number as u64)
+        }
+    }
 }
 
 // Goes on with a draw over one block.
@@ -118,10 +122,10 @@ fn two_blocks(rt: &impl Print, line: [usize; 16], bytes: &[u8]) -> io::Result<()
     report::text(rt, b"blocks")?;
     script::operands(rt, line, 2)?;
     let first = next_block(set, report::front(bytes, 384), 0, 0, &mut out);
-    progress(rt, first, &out)?;
+    progress(rt, &first, &out)?;
     if let Progress::Reached(done, run) = first {
         let second = next_block(set, report::part(bytes, 384, 384), done, run, &mut out);
-        progress(rt, second, &out)?;
+        progress(rt, &second, &out)?;
     }
     report::end(rt)
 }

@@ -76,5 +76,5 @@ fn run(rt: &impl Print, input: &mut impl Read, store: &mut [u8]) -> io::Result<(
 
 fn main(rt: HostRuntime) -> io::Result<()> {
     let mut store = [0u8; store::END];
-    run(&rt, &mut rt.reader(), &mut store)
+    run(&rt, &mut rt.stdin(), &mut store)
 }
