@@ -1,6 +1,5 @@
 -- `fills::copy` writes within its slice, and ends.
 -- Assumes nothing.
-use Prim.Native.Nat.{◌-◌}
 use lib.ListN.{length-set}
 use native.Mathlib.Omega.{arith}
 use Rattle.run_arithmetic.proofs.fills.copy.Goals as goal

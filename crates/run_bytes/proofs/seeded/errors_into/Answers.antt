@@ -7,7 +7,6 @@ use Rattle.sets.specs.declared.Parameters.{Parameters}
 use Rattle.sets.specs.Rules.{ByteRules}
 use Rattle.sets.specs.Derived.{error_draw_bytes_of, error_count_of}
 use Rattle.calls.proofs.Parts.{front_length}
-use borrow.Author.Rules.{rules}
 use Rattle.run_bytes.proofs.seeded.errors_into.Goals.{After-error_count-count}
 use Rattle.run_bytes.proofs.seeded.errors_into.Goals as goal
 

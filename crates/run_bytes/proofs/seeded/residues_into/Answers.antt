@@ -1,7 +1,6 @@
 -- The set keeps the rules, and block size and count are within the limits of a draw.
 -- Assumes nothing.
 use native.Mathlib.Omega.{arith}
-use borrow.Author.Rules.{rules}
 use Rattle.run_bytes.proofs.seeded.residues_into.Goals as goal
 
 pub residues_from-requires : goal.residues_from-requires
