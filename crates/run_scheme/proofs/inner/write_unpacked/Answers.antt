@@ -3,8 +3,6 @@
 use mathlib.Core.Path.{sym, ◌∙◌}
 use Prim.Native.Nat.{ℕ}
 use native.Mathlib.Omega.{arith}
-use borrow.Author.Rules.{rules}
-use borrow.Author.Tests.{not-false}
 use Rattle.sets.specs.Table.{IsSet, Listed}
 use Rattle.sets.specs.Rules.{Rules, ByteRules}
 use Rattle.sets.proofs.Rules.{listed_of, rules_of, byte_rules_of}
@@ -43,6 +41,6 @@ pub numbers_before_packing-requires : goal.numbers_before_packing-requires
 numbers_before_packing-requires c =
     let public = c.if-public-public_key_bytes.false ∙ c.public_key_bytes.ensures in
     let count = c.if-out-p.false in
-    let below = sym c.key_below.ensures ∙ not-false _ c.if-not-key_below.false in
+    let below = sym c.key_below.ensures ∙ c.if-not-key_below.false in
     let work = c.key_below.auto.work ∙ c.if-work-work_length.false ∙ c.work_length.ensures in
     (bytes (goal.at.numbers_before_packing-requires c).After-parameters_of-p, listed (goal.at.numbers_before_packing-requires c).After-parameters_of-p, public, below, c.if-seed-ne32.false, count, work)

@@ -1,7 +1,6 @@
 -- `run_scheme::made::fill_noise` meets its contract: each number that is stored is small.
 -- Assumes nothing.
 use mathlib.Core.Path.{refl, ◌∙◌}
-use Prim.Native.Nat.{◌-◌}
 use native.Mathlib.Omega.{arith}
 use lib.ListN.{length-set}
 use Rattle.run_scheme.proofs.Noise.{sizes_stored}
