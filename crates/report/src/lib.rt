@@ -4,39 +4,39 @@
 ghost use Rattle.std.specs.Prelude.{ℕ, ◌+◌, ◌*◌, ◌<◌, ◌≤◌, length, get_or};
 
 use calls::Answer;
-use libc::STDOUT_FILENO;
+use std::io;
 
 pub mod random;
 pub mod script;
 
 // Prints a text as it is.
-pub fn text(bytes: &[u8]) {
-    io::write_all(STDOUT_FILENO, bytes);
+pub fn text(rt: &impl Print, bytes: &[u8]) -> io::Result<()> {
+    rt.write_all(bytes)
 }
 
 // Prints a space and a number.
-pub fn number(n: u64) {
-    text(b" ");
-    io::print_decimal(STDOUT_FILENO, n);
+pub fn number(rt: &impl Print, n: u64) -> io::Result<()> {
+    print!(rt; " {n}")
 }
 
 // The same of a number of 32 bits.
-pub fn word(x: u32) {
-    number(x as u64);
+pub fn word(rt: &impl Print, x: u32) -> io::Result<()> {
+    number(rt, x as u64)
 }
 
 // Prints numbers, each after a space.
-pub fn words(values: &[u32]) {
+pub fn words(rt: &impl Print, values: &[u32]) -> io::Result<()> {
     let mut i: usize = 0;
     while i < values.len() {
-        word(values[i]);
+        word(rt, values[i])?;
         i += 1;
     }
+    Ok(())
 }
 
 // Ends the line.
-pub fn end() {
-    text(b"\n");
+pub fn end(rt: &impl Print) -> io::Result<()> {
+    text(rt, b"\n")
 }
 
 // A byte as a larger number.
@@ -47,23 +47,25 @@ fn wide(x: u8) -> u64
 }
 
 // Prints a space and bytes, each as two hexadecimal digits.
-pub fn bytes(values: &[u8]) {
-    text(b" ");
+pub fn bytes(rt: &impl Print, values: &[u8]) -> io::Result<()> {
+    text(rt, b" ")?;
     let mut i: usize = 0;
     while i < values.len() {
-        io::print_hex(STDOUT_FILENO, wide(values[i]), 2);
+        let byte = values[i];
+        print!(rt; "{byte:02x}")?;
         i += 1;
     }
+    Ok(())
 }
 
 // Prints the answer of an open call: done, or refused with its number and place.
-pub fn answer(given: Answer) {
+pub fn answer(rt: &impl Print, given: Answer) -> io::Result<()> {
     match given {
-        Answer::Done => text(b" done"),
+        Answer::Done => text(rt, b" done"),
         Answer::Refused(refusal, place) => {
-            text(b" refused");
-            number(refusal as u64);
-            number(place as u64);
+            text(rt, b" refused")?;
+            number(rt, refusal as u64)?;
+            number(rt, place as u64)
         }
     }
 }
@@ -77,14 +79,14 @@ fn summed(sum: u64, x: u64) -> u64
 }
 
 // Prints a space and the checksum of bytes.
-pub fn byte_sum(values: &[u8]) {
+pub fn byte_sum(rt: &impl Print, values: &[u8]) -> io::Result<()> {
     let mut sum: u64 = 0;
     let mut i: usize = 0;
     while i < values.len() {
         sum = summed(sum, wide(values[i]));
         i += 1;
     }
-    number(sum);
+    number(rt, sum)
 }
 
 // A number of 32 bits as a larger one.
@@ -95,20 +97,20 @@ fn wider(x: u32) -> u64
 }
 
 // Prints a space and the checksum of numbers.
-pub fn number_sum(values: &[u32]) {
+pub fn number_sum(rt: &impl Print, values: &[u32]) -> io::Result<()> {
     let mut sum: u64 = 0;
     let mut i: usize = 0;
     while i < values.len() {
         sum = summed(sum, wider(values[i]));
         i += 1;
     }
-    number(sum);
+    number(rt, sum)
 }
 
 // Ends a line with the checksum of the work slice.
-pub fn work_end(work: &[u32]) {
-    number_sum(work);
-    end();
+pub fn work_end(rt: &impl Print, work: &[u32]) -> io::Result<()> {
+    number_sum(rt, work)?;
+    end(rt)
 }
 
 // A signed number raised by 2^24, so that it has no sign; one of a size above 1,000, which no error and no multiplier has, counts as 0.
@@ -125,14 +127,14 @@ fn raised(x: i32) -> u64
 }
 
 // Prints a space and the checksum of signed numbers.
-pub fn signed_sum(values: &[i32]) {
+pub fn signed_sum(rt: &impl Print, values: &[i32]) -> io::Result<()> {
     let mut sum: u64 = 0;
     let mut i: usize = 0;
     while i < values.len() {
         sum = summed(sum, raised(values[i]));
         i += 1;
     }
-    number(sum);
+    number(rt, sum)
 }
 
 // Fills bytes with a pattern: none of them is above 198, so that three of them are never a candidate that a draw sets aside.
@@ -188,10 +190,10 @@ pub fn at_most(x: usize, limit: usize) -> usize
 }
 
 // Prints the name of a call, its set, and which lengths were changed.
-pub fn call(name: &[u8], set: usize, change: usize) {
-    text(name);
-    number(set as u64);
-    number(change as u64);
+pub fn call(rt: &impl Print, name: &[u8], set: usize, change: usize) -> io::Result<()> {
+    text(rt, name)?;
+    number(rt, set as u64)?;
+    number(rt, change as u64)
 }
 
 // The lowest eight bits of a number.

@@ -9,6 +9,8 @@ mod vectors;
 
 use report::script;
 use report::script::Command;
+use std::io;
+use std::io::Read;
 
 // Where the calls find polynomials a, a secret, a key, a message and the two parts of what was sealed.
 const A: usize = 0;
@@ -32,36 +34,54 @@ const R: usize = 10300;
 const END: usize = 33800;
 
 // Runs one line of the script: its first number says what to do. A text and the operands of an open call are printed from its values.
-fn step(values: [usize; 16], line: Command, numbers: &mut [u32], signed: &mut [i32]) {
+fn step(
+    rt: &impl Print,
+    values: [usize; 16],
+    line: Command,
+    numbers: &mut [u32],
+    signed: &mut [i32],
+) -> io::Result<()> {
     let number = line.number;
-    names::print(values, number);
+    names::print(rt, values, number)?;
     match number {
-        0 => script::text(values),
-        1..=3 => fills::step(line, numbers),
-        4..=6 => fills::signed_step(line, signed),
-        9 => open::key(line, numbers, signed),
-        10 => open::sealing(line, numbers, signed),
-        12..=15 => vectors::transform(line, numbers),
-        _ => open::show(line, numbers),
+        0 => script::text(rt, values),
+        1..=3 => {
+            fills::step(line, numbers);
+            Ok(())
+        }
+        4..=6 => {
+            fills::signed_step(line, signed);
+            Ok(())
+        }
+        9 => open::key(rt, line, numbers, signed),
+        10 => open::sealing(rt, line, numbers, signed),
+        12..=15 => vectors::transform(rt, line, numbers),
+        _ => open::show(rt, line, numbers),
     }
 }
 
 // Runs every line, of at most a million.
-fn run(numbers: &mut [u32], signed: &mut [i32]) {
+fn run(
+    rt: &impl Print,
+    input: &mut impl Read,
+    numbers: &mut [u32],
+    signed: &mut [i32],
+) -> io::Result<()> {
     let mut left: usize = 1000000;
     while 0 < left {
-        let line = script::next_line();
+        let line = script::next_line(input)?;
         if line.is_end {
-            return;
+            return Ok(());
         }
         let values = line.values;
-        step(values, script::command_of(values), numbers, signed);
+        step(rt, values, script::command_of(values), numbers, signed)?;
         left -= 1;
     }
+    Ok(())
 }
 
-fn main() {
+fn main(rt: HostRuntime) -> io::Result<()> {
     let mut numbers = [0u32; END];
     let mut signed = [0i32; 18500];
-    run(&mut numbers, &mut signed);
+    run(&rt, &mut rt.stdin(), &mut numbers, &mut signed)
 }

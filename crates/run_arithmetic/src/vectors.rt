@@ -8,6 +8,7 @@ ghost use Rattle.ntt_products.specs.Placed.{Placed, table_length_of};
 use crate::fills;
 use report::script::Command;
 use sets::Parameters;
+use std::io;
 
 // The record of a set; that of set 0 where there is no such set.
 fn record_of(set: usize) -> Parameters
@@ -34,49 +35,79 @@ fn ready(p: Parameters, i: usize, n: usize, tables: &[u32], x: &[u32]) -> bool
 }
 
 // Sends the first `n` numbers with the root, and prints the checksum.
-fn send(p: Parameters, i: usize, n: usize, tables: &mut [u32], x: &mut [u32])
+fn send(
+    rt: &impl Print,
+    p: Parameters,
+    i: usize,
+    n: usize,
+    tables: &mut [u32],
+    x: &mut [u32],
+) -> io::Result<()>
     requires { Listed p }
 {
     if ready(p, i, n, tables, x) {
         ntt_products::load_tables(p, i, tables);
         ntt_products::send_first(p, i, tables, x, n);
-        report::number_sum(x);
+        report::number_sum(rt, x)?;
     }
+    Ok(())
 }
 
 // The same with the inverse of the root.
-fn send_inverse(p: Parameters, i: usize, n: usize, tables: &mut [u32], x: &mut [u32])
+fn send_inverse(
+    rt: &impl Print,
+    p: Parameters,
+    i: usize,
+    n: usize,
+    tables: &mut [u32],
+    x: &mut [u32],
+) -> io::Result<()>
     requires { Listed p }
 {
     if ready(p, i, n, tables, x) {
         ntt_products::load_inverse_tables(p, i, tables);
         ntt_products::send_first_inverse(p, i, tables, x, n);
-        report::number_sum(x);
+        report::number_sum(rt, x)?;
     }
+    Ok(())
 }
 
 // Recovers a vector that was sent with the root, and prints the checksum.
-fn recover(p: Parameters, i: usize, tables: &mut [u32], x: &mut [u32])
+fn recover(
+    rt: &impl Print,
+    p: Parameters,
+    i: usize,
+    tables: &mut [u32],
+    x: &mut [u32],
+) -> io::Result<()>
     requires { Listed p }
 {
     let size = x.len();
     if ready(p, i, size, tables, x) {
         ntt_products::load_inverse_tables(p, i, tables);
         ntt_products::recover_first(p, i, tables, x, size);
-        report::number_sum(x);
+        report::number_sum(rt, x)?;
     }
+    Ok(())
 }
 
 // The same of a vector that was sent with the inverse of the root.
-fn recover_inverse(p: Parameters, i: usize, tables: &mut [u32], x: &mut [u32])
+fn recover_inverse(
+    rt: &impl Print,
+    p: Parameters,
+    i: usize,
+    tables: &mut [u32],
+    x: &mut [u32],
+) -> io::Result<()>
     requires { Listed p }
 {
     let size = x.len();
     if ready(p, i, size, tables, x) {
         ntt_products::load_tables(p, i, tables);
         ntt_products::recover_first_inverse(p, i, tables, x, size);
-        report::number_sum(x);
+        report::number_sum(rt, x)?;
     }
+    Ok(())
 }
 
 // How many places a correlation of `n` numbers settles: as many as these n leave. The test makes sure that one more than the size is a number.
@@ -91,7 +122,15 @@ fn settled(size: usize, n: usize) -> usize
 }
 
 // Correlates the first `n` numbers of a vector with a stored one, and prints the checksum of the places that this settles.
-fn correlate(p: Parameters, i: usize, n: usize, tables: &mut [u32], x: &mut [u32], stored: &[u32])
+fn correlate(
+    rt: &impl Print,
+    p: Parameters,
+    i: usize,
+    n: usize,
+    tables: &mut [u32],
+    x: &mut [u32],
+    stored: &[u32],
+) -> io::Result<()>
     requires { Listed p }
 {
     let size = stored.len();
@@ -99,43 +138,46 @@ fn correlate(p: Parameters, i: usize, n: usize, tables: &mut [u32], x: &mut [u32
         let m = settled(size, n);
         ntt_products::load_tables(p, i, tables);
         ntt_products::correlate(p, i, tables, x, n, stored, m);
-        report::number_sum(report::numbers(x, 0, m));
+        report::number_sum(rt, report::numbers(x, 0, m))?;
     }
+    Ok(())
 }
 
 // The same of two vectors of the store, the first of which is copied.
-pub fn correlation(line: Command, numbers: &[u32]) {
+pub fn correlation(rt: &impl Print, line: Command, numbers: &[u32]) -> io::Result<()> {
     let mut tables = [0u32; 3605];
     let mut x = [0u32; 3328];
     fills::copy(&mut x, report::numbers(numbers, crate::A, 3328));
     correlate(
+        rt,
         record_of(line.one),
         line.two,
         line.three,
         report::numbers_mut(&mut tables, 0, line.four),
         report::numbers_mut(&mut x, 0, line.five),
         report::numbers(numbers, crate::B, line.five),
-    );
+    )
 }
 
 // One of the four transforms of a vector.
-fn one_way(line: Command, tables: &mut [u32], x: &mut [u32]) {
+fn one_way(rt: &impl Print, line: Command, tables: &mut [u32], x: &mut [u32]) -> io::Result<()> {
     let p = record_of(line.one);
     let number = line.number;
     match number {
-        12 => send(p, line.two, line.three, tables, x),
-        13 => send_inverse(p, line.two, line.three, tables, x),
-        14 => recover(p, line.two, tables, x),
-        _ => recover_inverse(p, line.two, tables, x),
+        12 => send(rt, p, line.two, line.three, tables, x),
+        13 => send_inverse(rt, p, line.two, line.three, tables, x),
+        14 => recover(rt, p, line.two, tables, x),
+        _ => recover_inverse(rt, p, line.two, tables, x),
     }
 }
 
 // The same of a vector of the store.
-pub fn transform(line: Command, numbers: &mut [u32]) {
+pub fn transform(rt: &impl Print, line: Command, numbers: &mut [u32]) -> io::Result<()> {
     let mut tables = [0u32; 3605];
     one_way(
+        rt,
         line,
         report::numbers_mut(&mut tables, 0, line.four),
         report::numbers_mut(numbers, crate::A, line.five),
-    );
+    )
 }

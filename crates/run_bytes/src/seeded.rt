@@ -5,10 +5,10 @@ ghost use Rattle.std.specs.Prelude.{◌≡◌, ◌≤◌, ◌<◌, length};
 ghost use Rattle.sets.specs.Rules.{Rules, ByteRules};
 ghost use Rattle.sets.specs.Derived.{multiplier_count_of};
 
-use libc::STDOUT_FILENO;
 use report::script;
 use samplers::{Advance, Progress};
 use sets::Parameters;
+use std::io;
 
 // A number, or the limit below or above it.
 fn within(x: usize, least: usize, most: usize) -> usize
@@ -30,15 +30,15 @@ fn parameters(set: usize) -> Parameters
 }
 
 // Prints the answer of a uniform draw: the counter afterwards, or the refusal.
-fn advance(given: Advance) {
+fn advance(rt: &impl Print, given: Advance) -> io::Result<()> {
     match given {
         Advance::Counter(counter) => {
-            report::text(b" counter");
-            report::number(counter as u64);
+            report::text(rt, b" counter")?;
+            report::number(rt, counter as u64)
         }
         Advance::Refused(number) => {
-            report::text(b" refused");
-            report::number(number as u64);
+            report::text(rt, b" refused")?;
+            report::number(rt, number as u64)
         }
     }
 }
@@ -91,16 +91,19 @@ fn multipliers_into(set: usize, seed: &[u8], out: &mut [u32])
 }
 
 // Prints where a draw stands after a block; of a draw that is refused the results are not told.
-fn progress(given: Progress, out: &[u32]) {
-    let Progress::Reached(done, run) = given else {
-        report::text(b" refused");
-        report::number(samplers::block::refusal_of(given) as u64);
-        return;
-    };
-    report::text(b" reached");
-    report::number(done as u64);
-    report::number(run as u64);
-    report::number_sum(out);
+fn progress(rt: &impl Print, given: &Progress, out: &[u32]) -> io::Result<()> {
+    match given {
+        Progress::Reached(done, run) => {
+            report::text(rt, b" reached")?;
+            report::number(rt, *done as u64)?;
+            report::number(rt, *run as u64)?;
+            report::number_sum(rt, out)
+        }
+        Progress::Refused(number) => {
+            report::text(rt, b" refused")?;
+            report::number(rt, *number as u64)
+        }
+    }
 }
 
 // Goes on with a draw over one block.
@@ -113,18 +116,18 @@ fn next_block(set: usize, bytes: &[u8], done: usize, run: u32, out: &mut [u32]) 
 }
 
 // Prints where a draw of 40 residues stands after each of two blocks of 384 bytes.
-fn two_blocks(line: [usize; 16], bytes: &[u8]) {
+fn two_blocks(rt: &impl Print, line: [usize; 16], bytes: &[u8]) -> io::Result<()> {
     let mut out = [7u32; 40];
     let set = line[1];
-    report::text(b"blocks");
-    script::operands(line, 2);
+    report::text(rt, b"blocks")?;
+    script::operands(rt, line, 2)?;
     let first = next_block(set, report::front(bytes, 384), 0, 0, &mut out);
-    progress(first, &out);
+    progress(rt, &first, &out)?;
     if let Progress::Reached(done, run) = first {
         let second = next_block(set, report::part(bytes, 384, 384), done, run, &mut out);
-        progress(second, &out);
+        progress(rt, &second, &out)?;
     }
-    report::end();
+    report::end(rt)
 }
 
 // The seed at a place.
@@ -135,38 +138,39 @@ fn seed_at(bytes: &[u8], place: usize) -> [u8; 32] {
 }
 
 // Prints a space and a number; one above `half` is printed as the negative number that it is congruent to modulo q.
-fn print(x: u32, half: u32, q: u32) {
+fn print(rt: &impl Print, x: u32, half: u32, q: u32) -> io::Result<()> {
     if half < x {
         if x <= q {
-            report::text(b" -");
-            io::print_decimal(STDOUT_FILENO, (q - x) as u64);
-            return;
+            let size = q - x;
+            return print!(rt; " -{size}");
         }
     }
-    report::number(x as u64);
+    report::number(rt, x as u64)
 }
 
 // Prints numbers so.
-fn print_all(values: &[u32], half: u32, q: u32) {
+fn print_all(rt: &impl Print, values: &[u32], half: u32, q: u32) -> io::Result<()> {
     let mut i: usize = 0;
     while i < values.len() {
-        print(values[i], half, q);
+        print(rt, values[i], half, q)?;
         i += 1;
     }
+    Ok(())
 }
 
 // Prints the numbers that a line asks for.
-fn part(line: [usize; 16], out: &[u32]) {
+fn part(rt: &impl Print, line: [usize; 16], out: &[u32]) -> io::Result<()> {
     let p = parameters(line[1]);
     print_all(
+        rt,
         report::numbers(out, line[6], line[7]),
         script::low_word(line[8]),
         p.q,
-    );
+    )
 }
 
 // Residues: set, block size, first counter and results wanted. The checksum covers the numbers past the results too, which stay as they were.
-fn residues(line: [usize; 16], seed: [u8; 32]) {
+fn residues(rt: &impl Print, line: [usize; 16], seed: [u8; 32]) -> io::Result<()> {
     let mut out = [7u32; 10240];
     let given = residues_into(
         line[1],
@@ -177,47 +181,44 @@ fn residues(line: [usize; 16], seed: [u8; 32]) {
         &mut out,
     );
     if 0 < line[7] {
-        part(line, &out);
-        return;
+        return part(rt, line, &out);
     }
-    report::text(b"residues");
-    script::operands(line, 4);
-    advance(given);
-    report::work_end(&out);
+    report::text(rt, b"residues")?;
+    script::operands(rt, line, 4)?;
+    advance(rt, given)?;
+    report::work_end(rt, &out)
 }
 
 // The errors of one key: set and counter.
-fn errors(line: [usize; 16], seed: [u8; 32]) {
+fn errors(rt: &impl Print, line: [usize; 16], seed: [u8; 32]) -> io::Result<()> {
     let mut out = [7u32; 10240];
     errors_into(line[1], &seed, script::low_word(line[2]), &mut out);
     if 0 < line[7] {
-        part(line, &out);
-        return;
+        return part(rt, line, &out);
     }
-    report::text(b"errors");
-    script::operands(line, 2);
-    report::work_end(&out);
+    report::text(rt, b"errors")?;
+    script::operands(rt, line, 2)?;
+    report::work_end(rt, &out)
 }
 
 // The multipliers of one sealing: set.
-fn multipliers(line: [usize; 16], seed: [u8; 32]) {
+fn multipliers(rt: &impl Print, line: [usize; 16], seed: [u8; 32]) -> io::Result<()> {
     let mut out = [7u32; 10240];
     multipliers_into(line[1], &seed, &mut out);
     if 0 < line[7] {
-        part(line, &out);
-        return;
+        return part(rt, line, &out);
     }
-    report::text(b"multipliers");
-    script::operands(line, 1);
-    report::work_end(&out);
+    report::text(rt, b"multipliers")?;
+    script::operands(rt, line, 1)?;
+    report::work_end(rt, &out)
 }
 
 // One of these.
-pub fn step(line: [usize; 16], bytes: &[u8]) {
+pub fn step(rt: &impl Print, line: [usize; 16], bytes: &[u8]) -> io::Result<()> {
     match line[0] {
-        13 => residues(line, seed_at(bytes, line[5])),
-        14 => errors(line, seed_at(bytes, line[5])),
-        15 => multipliers(line, seed_at(bytes, line[5])),
-        _ => two_blocks(line, bytes),
+        13 => residues(rt, line, seed_at(bytes, line[5])),
+        14 => errors(rt, line, seed_at(bytes, line[5])),
+        15 => multipliers(rt, line, seed_at(bytes, line[5])),
+        _ => two_blocks(rt, line, bytes),
     }
 }

@@ -3,6 +3,7 @@
 use crate::store;
 use calls::Answer;
 use report::script::Command;
+use std::io;
 
 // Reads a ciphertext of Titanium-CPA, where every slice has the set's length.
 fn read(set: usize, seed: &[u8], sealed: &[u8], message: &mut [u8], work: &mut [u32]) -> Answer {
@@ -30,17 +31,21 @@ fn read(set: usize, seed: &[u8], sealed: &[u8], message: &mut [u8], work: &mut [
 
 // The same with the secret key and the ciphertext of the store; prints the answer, and keeps what is read. A line has the command, the set and the lengths of
 // the ciphertext and of the work slice.
-pub fn open(line: Command, store: &mut [u8]) {
+pub fn open(rt: &impl Print, line: Command, store: &mut [u8]) -> io::Result<()> {
     let mut message = [0u8; 32];
     let mut work = [0u32; 25080];
-    report::answer(read(
-        line.one,
-        report::part(store, store::SECRET, 32),
-        report::part(store, store::SEALED, line.two),
-        &mut message,
-        report::numbers_mut(&mut work, 0, line.three),
-    ));
+    report::answer(
+        rt,
+        read(
+            line.one,
+            report::part(store, store::SECRET, 32),
+            report::part(store, store::SEALED, line.two),
+            &mut message,
+            report::numbers_mut(&mut work, 0, line.three),
+        ),
+    )?;
     store::keep(store, store::OPENED, 32, &message);
+    Ok(())
 }
 
 // Writes the numbers of c2, where every slice has the set's length and every number of the public key is a residue.
@@ -78,7 +83,7 @@ fn write_unpacked(
 }
 
 // Prints the first eight of them, of what the store holds. A line has the command, the set and the lengths of the public key and of the work slice.
-pub fn print_unpacked(line: Command, store: &[u8]) {
+pub fn print_unpacked(rt: &impl Print, line: Command, store: &[u8]) -> io::Result<()> {
     let mut numbers = [0u32; 256];
     let mut work = [0u32; 25080];
     write_unpacked(
@@ -89,6 +94,6 @@ pub fn print_unpacked(line: Command, store: &[u8]) {
         &mut numbers,
         report::numbers_mut(&mut work, 0, line.three),
     );
-    report::words(report::numbers(&numbers, 0, 8));
-    report::end();
+    report::words(rt, report::numbers(&numbers, 0, 8))?;
+    report::end(rt)
 }

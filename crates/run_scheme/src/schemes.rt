@@ -3,6 +3,7 @@
 use crate::{patterns, store};
 use calls::Answer;
 use report::script::Command;
+use std::io;
 
 // Key of either scheme.
 fn make_key(
@@ -20,7 +21,7 @@ fn make_key(
 }
 
 // The same with the seed of the store.
-fn key(line: Command, store: &mut [u8]) {
+fn key(rt: &impl Print, line: Command, store: &mut [u8]) -> io::Result<()> {
     let mut work = [7u32; 25081];
     let mut public = patterns::key(1);
     let mut secret = patterns::key(2);
@@ -33,11 +34,11 @@ fn key(line: Command, store: &mut [u8]) {
     );
     store::keep(store, store::PUBLIC, 26913, &public);
     store::keep(store, store::SECRET, 26945, &secret);
-    print(line, answer, store, &work);
+    print(rt, line, answer, store, &work)
 }
 
 // Encrypt.
-fn encrypt(line: Command, store: &mut [u8]) {
+fn encrypt(rt: &impl Print, line: Command, store: &mut [u8]) -> io::Result<()> {
     let mut work = [7u32; 25081];
     let mut sealed = patterns::sealed();
     let answer = encryption::encrypt(
@@ -49,11 +50,11 @@ fn encrypt(line: Command, store: &mut [u8]) {
         report::numbers_mut(&mut work, 0, line.eight),
     );
     store::keep(store, store::SEALED, 8353, &sealed);
-    print(line, answer, store, &work);
+    print(rt, line, answer, store, &work)
 }
 
 // Encapsulate.
-fn encapsulate(line: Command, store: &mut [u8]) {
+fn encapsulate(rt: &impl Print, line: Command, store: &mut [u8]) -> io::Result<()> {
     let mut work = [7u32; 25081];
     let mut sealed = patterns::sealed();
     let mut shared = patterns::short(4);
@@ -67,7 +68,7 @@ fn encapsulate(line: Command, store: &mut [u8]) {
     );
     store::keep(store, store::SEALED, 8353, &sealed);
     store::keep(store, store::SHARED, 33, &shared);
-    print(line, answer, store, &work);
+    print(rt, line, answer, store, &work)
 }
 
 // Decrypt or decapsulate.
@@ -91,7 +92,7 @@ fn opened_start(number: usize) -> usize {
 }
 
 // Opens the ciphertext of the store with the secret key there.
-fn open(line: Command, store: &mut [u8]) {
+fn open(rt: &impl Print, line: Command, store: &mut [u8]) -> io::Result<()> {
     let mut work = [7u32; 25081];
     let mut opened = patterns::short(opened_start(line.number));
     let answer = read(
@@ -102,75 +103,83 @@ fn open(line: Command, store: &mut [u8]) {
         report::numbers_mut(&mut work, 0, line.seven),
     );
     store::keep(store, store::OPENED, 33, &opened);
-    print(line, answer, store, &work);
+    print(rt, line, answer, store, &work)
 }
 
 // A name of n bytes from a place on. The names stand in one text: a match with a text in each arm is dear to prove.
-fn print_part(from: usize, n: usize) {
-    report::text(report::part(b"keyencryptencapsulatedecryptdecapsulate", from, n));
+fn print_part(rt: &impl Print, from: usize, n: usize) -> io::Result<()> {
+    report::text(
+        rt,
+        report::part(b"keyencryptencapsulatedecryptdecapsulate", from, n),
+    )
 }
 
 // Prints the name of a call.
-fn print_name(number: usize) {
+fn print_name(rt: &impl Print, number: usize) -> io::Result<()> {
     match number {
-        8..=9 => print_part(0, 3),
-        10 => print_part(3, 7),
-        11 => print_part(10, 11),
-        12 => print_part(21, 7),
-        _ => print_part(28, 11),
+        8..=9 => print_part(rt, 0, 3),
+        10 => print_part(rt, 3, 7),
+        11 => print_part(rt, 10, 11),
+        12 => print_part(rt, 21, 7),
+        _ => print_part(rt, 28, 11),
     }
 }
 
 // Prints checksums of the long things that a call made, and the short ones themselves.
-fn print_made(number: usize, store: &[u8]) {
+fn print_made(rt: &impl Print, number: usize, store: &[u8]) -> io::Result<()> {
     match number {
-        8 | 9 => print_keys(number, store),
-        10 => report::byte_sum(report::part(store, store::SEALED, 8321)),
-        11 => print_encapsulated(store),
-        _ => report::bytes(report::part(store, store::OPENED, 33)),
+        8 | 9 => print_keys(rt, number, store),
+        10 => report::byte_sum(rt, report::part(store, store::SEALED, 8321)),
+        11 => print_encapsulated(rt, store),
+        _ => report::bytes(rt, report::part(store, store::OPENED, 33)),
     }
 }
 
 // The same of a key; a secret key of the encryption scheme is short.
-fn print_keys(number: usize, store: &[u8]) {
-    report::byte_sum(report::part(store, store::PUBLIC, 26913));
+fn print_keys(rt: &impl Print, number: usize, store: &[u8]) -> io::Result<()> {
+    report::byte_sum(rt, report::part(store, store::PUBLIC, 26913))?;
     if number == 8 {
-        report::bytes(report::part(store, store::SECRET, 33));
+        report::bytes(rt, report::part(store, store::SECRET, 33))
     } else {
-        report::byte_sum(report::part(store, store::SECRET, 26945));
+        report::byte_sum(rt, report::part(store, store::SECRET, 26945))
     }
 }
 
 // The same of a ciphertext and the shared key.
-fn print_encapsulated(store: &[u8]) {
-    report::byte_sum(report::part(store, store::SEALED, 8353));
-    report::bytes(report::part(store, store::SHARED, 33));
+fn print_encapsulated(rt: &impl Print, store: &[u8]) -> io::Result<()> {
+    report::byte_sum(rt, report::part(store, store::SEALED, 8353))?;
+    report::bytes(rt, report::part(store, store::SHARED, 33))
 }
 
 // Prints the line of a call, or only its answer, or nothing.
-fn print(line: Command, answer: Answer, store: &[u8], work: &[u32]) {
+fn print(
+    rt: &impl Print,
+    line: Command,
+    answer: Answer,
+    store: &[u8],
+    work: &[u32],
+) -> io::Result<()> {
     if line.one == 0 {
-        return;
+        return Ok(());
     }
     if line.one == 2 {
-        report::answer(answer);
-        return;
+        return report::answer(rt, answer);
     }
-    print_name(line.number);
-    report::number(line.two as u64);
-    report::number(line.three as u64);
-    report::answer(answer);
-    print_made(line.number, store);
-    report::work_end(work);
+    print_name(rt, line.number)?;
+    report::number(rt, line.two as u64)?;
+    report::number(rt, line.three as u64)?;
+    report::answer(rt, answer)?;
+    print_made(rt, line.number, store)?;
+    report::work_end(rt, work)
 }
 
 // Makes a call.
-pub fn call(line: Command, store: &mut [u8]) {
+pub fn call(rt: &impl Print, line: Command, store: &mut [u8]) -> io::Result<()> {
     let number = line.number;
     match number {
-        8..=9 => key(line, store),
-        10 => encrypt(line, store),
-        11 => encapsulate(line, store),
-        _ => open(line, store),
+        8..=9 => key(rt, line, store),
+        10 => encrypt(rt, line, store),
+        11 => encapsulate(rt, line, store),
+        _ => open(rt, line, store),
     }
 }

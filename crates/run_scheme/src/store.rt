@@ -1,5 +1,6 @@
 // What the calls read and make stands in one store, so that every function takes one slice. Each part has one byte more than the largest of its kind.
 use report::script::Command;
+use std::io;
 
 // Where the key seed, the sealing seed, the message, the public key, the secret key, the ciphertext, what an opening gave and the sender's shared key begin;
 // before the key seed is room for the number of a set, with which the inputs of a sheet begin, and behind what an opening gave for bytes of the script.
@@ -62,23 +63,23 @@ pub fn flip(bytes: &mut [u8], place: usize, bits: u8) {
 }
 
 // Prints bytes in hexadecimal, and ends the line.
-fn print_hex(bytes: &[u8]) {
-    report::bytes(bytes);
-    report::end();
+fn print_hex(rt: &impl Print, bytes: &[u8]) -> io::Result<()> {
+    report::bytes(rt, bytes)?;
+    report::end(rt)
 }
 
 // The same of 32 bytes of SHAKE256 of bytes.
-fn print_digest(bytes: &[u8]) {
+fn print_digest(rt: &impl Print, bytes: &[u8]) -> io::Result<()> {
     let mut out = [0u8; 32];
     sponge::shake256_into(bytes, &mut out);
-    print_hex(&out);
+    print_hex(rt, &out)
 }
 
 // Prints bytes as a text, in hexadecimal, or their digest.
-pub fn print(number: usize, bytes: &[u8]) {
+pub fn print(rt: &impl Print, number: usize, bytes: &[u8]) -> io::Result<()> {
     match number {
-        5 => report::text(bytes),
-        6 => print_hex(bytes),
-        _ => print_digest(bytes),
+        5 => report::text(rt, bytes),
+        6 => print_hex(rt, bytes),
+        _ => print_digest(rt, bytes),
     }
 }

@@ -3,9 +3,11 @@
 use crate::{patterns, store};
 use calls::Answer;
 use report::script::Command;
+use std::io;
 
 // Prints the line of a call: its answer, checksums of the keys, the ciphertext and the work slice, and the message or the two shared keys themselves.
 fn print(
+    rt: &impl Print,
     line: Command,
     answer: Answer,
     public: &[u8; 26945],
@@ -14,19 +16,19 @@ fn print(
     sent: &[u8; 33],
     received: &[u8; 33],
     work: &[u32; 25081],
-) {
-    report::call(b"whole", line.one, line.two);
-    report::answer(answer);
-    report::byte_sum(report::front(public, 26913));
-    report::byte_sum(secret);
-    report::byte_sum(sealed);
-    report::bytes(sent);
-    report::bytes(received);
-    report::work_end(work);
+) -> io::Result<()> {
+    report::call(rt, b"whole", line.one, line.two)?;
+    report::answer(rt, answer)?;
+    report::byte_sum(rt, report::front(public, 26913))?;
+    report::byte_sum(rt, secret)?;
+    report::byte_sum(rt, sealed)?;
+    report::bytes(rt, sent)?;
+    report::bytes(rt, received)?;
+    report::work_end(rt, work)
 }
 
 // The encryption scheme, which has no shared key of the sender.
-pub fn seal_and_read(line: Command, store: &[u8]) {
+pub fn seal_and_read(rt: &impl Print, line: Command, store: &[u8]) -> io::Result<()> {
     let mut public = patterns::key(1);
     let mut secret = patterns::key(2);
     let mut sealed = patterns::sealed();
@@ -46,12 +48,12 @@ pub fn seal_and_read(line: Command, store: &[u8]) {
     // both kinds of lines have the same fields: this call gives no key of the sender, so the pattern stands there
     let sent = patterns::short(4);
     print(
-        line, answer, &public, &secret, &sealed, &sent, &received, &work,
-    );
+        rt, line, answer, &public, &secret, &sealed, &sent, &received, &work,
+    )
 }
 
 // The key exchange, which has no sealing seed.
-pub fn share_a_key(line: Command, store: &[u8]) {
+pub fn share_a_key(rt: &impl Print, line: Command, store: &[u8]) -> io::Result<()> {
     let mut public = patterns::key(1);
     let mut secret = patterns::key(2);
     let mut sealed = patterns::sealed();
@@ -70,6 +72,6 @@ pub fn share_a_key(line: Command, store: &[u8]) {
         report::numbers_mut(&mut work, 0, line.ten),
     );
     print(
-        line, answer, &public, &secret, &sealed, &sent, &received, &work,
-    );
+        rt, line, answer, &public, &secret, &sealed, &sent, &received, &work,
+    )
 }

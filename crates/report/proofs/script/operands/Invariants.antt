@@ -1,0 +1,10 @@
+-- `report::script::operands` ends.
+-- Assumes nothing.
+use Prim.Native.Nat.{◌-◌, ◌≤◌}
+use Rattle.report.proofs.script.operands.Given as goal
+
+abbrev pub invariant-loop-i : goal.invariant-loop-i
+invariant-loop-i g l = l.i ≤ 16
+
+abbrev pub decreases-loop-i : goal.decreases-loop-i
+decreases-loop-i g l = 16 - l.i
