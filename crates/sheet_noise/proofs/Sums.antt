@@ -5,9 +5,9 @@ use mathlib.Core.List.{List}
 use Prim.Native.Nat.{ℕ, suc, ◌+◌, ◌-◌, ◌*◌, ◌%◌, ◌^◌, ◌≤◌, ◌<◌}
 use native.Mathlib.Nat.{mod-lt, mul-le-mul_left}
 use native.Mathlib.Omega.{arith}
-use lib.IntN.{ℤ, ◌+ℤ◌, ◌*ℤ◌, nat_abs}
+use lib.IntN.{ℤ, pos, ◌+ℤ◌, ◌*ℤ◌, nat_abs}
 use mir.Syntax.{w64}
-use mir.Val.{SFits, to_z, of_z}
+use mir.Val.{SFits}
 use mir.Facts.{to_z-of_z}
 use Rattle.maths.specs.Vector.{at}
 use Rattle.maths.specs.Integer.{sum_ℤ, centre}
@@ -35,20 +35,20 @@ remainder_below r x q e h = rw e (mod-lt x (omega arith))
 sum_most : (n most : ℕ) (f : ℕ → ℤ) → ((i : ℕ) → nat_abs (f i) ≤ most) → nat_abs (sum_ℤ n f) ≤ n * most
 sum_most n most f each = rw (← sum_const n most) (sum_ℤ_most n f (λ i. most) (λ i h. each i))
 
--- a word holds the sum of the first l of n terms
-pub record Summing (f : ℕ → ℤ) (n l word : ℕ) : Type 0 where
+-- the sum of the first l of n terms
+pub record Summing (f : ℕ → ℤ) (n l : ℕ) (sum : ℤ) : Type 0 where
   pub within : l ≤ n
-  pub value : to_z w64 word ≡ sum_ℤ l f
+  pub value : sum ≡ sum_ℤ l f
 
 module _ (f : ℕ → ℤ) (n : ℕ) where
   -- before the first term
-  pub summing_none : Summing f n 0 0
+  pub summing_none : Summing f n 0 (pos 0)
   summing_none = record { within = omega arith; value = sym (sum_ℤ_none f) }
 
-  -- one term more
-  pub summing_more : {l word : ℕ} (r z : ℤ) → Summing f n l word → l < n → SFits w64 r → SFits w64 z → r ≡ to_z w64 word +ℤ stored z → z ≡ f l
-      → Summing f n (l + 1) (of_z w64 r)
-  summing_more {l} {word} r z s h fr fz e is =
+  -- one term more, as a word holds it
+  pub summing_more : {l : ℕ} {sum : ℤ} (r z : ℤ) → Summing f n l sum → l < n → SFits w64 r → SFits w64 z → r ≡ sum +ℤ stored z → z ≡ f l
+      → Summing f n (l + 1) (stored r)
+  summing_more {l} r z s h fr fz e is =
       let next : suc l ≡ l + 1 = omega arith in
       record {
         within = omega arith;
@@ -56,11 +56,11 @@ module _ (f : ℕ → ℤ) (n : ℕ) where
       }
 
   -- after the last
-  pub summing_all : {l word : ℕ} → Summing f n l word → n ≤ l → to_z w64 word ≡ sum_ℤ n f
+  pub summing_all : {l : ℕ} {sum : ℤ} → Summing f n l sum → n ≤ l → sum ≡ sum_ℤ n f
   summing_all {l} s h = let all : l ≡ n = omega (arith, s.within) in s.value ∙ ap (λ (m : ℕ). sum_ℤ m f) all
 
   -- the sums on the way are small
-  pub summing_small : {l word : ℕ} (most : ℕ) → Summing f n l word → ((i : ℕ) → nat_abs (f i) ≤ most) → n * most < 2 ^ 61 → nat_abs (to_z w64 word) < 2 ^ 61
+  pub summing_small : {l : ℕ} {sum : ℤ} (most : ℕ) → Summing f n l sum → ((i : ℕ) → nat_abs (f i) ≤ most) → n * most < 2 ^ 61 → nat_abs sum < 2 ^ 61
   summing_small {l} most s each room =
       let fewer : most * l ≤ most * n = mul-le-mul_left most s.within in
       rw s.value (omega (arith, sum_most l most f each))

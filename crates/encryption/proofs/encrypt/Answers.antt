@@ -31,7 +31,7 @@ returns-in_default c =
     let args = c.args in
     let p = set_of args.set in let whole = one_refused (encrypt_draws p args.public.now) args.work.now
     (scheme.ciphertext p args.public.now args.message.now args.seed.now) args.ciphertext.now
-    c.encrypt_checked-checked.ensures (ap outcome c.in_default.is) in record { answer = whole.0; given = whole.1; cleared = whole.2 }
+    c.encrypt_checked-checked.ensures (ap outcome c.in_default.is) in record { answer = whole.0; given = whole.1.0; cleared = whole.1.1 }
 
 pub encrypt-answer-requires : goal.encrypt-answer-requires
 encrypt-answer-requires c =
@@ -55,4 +55,4 @@ returns c =
     let made = c.encrypt-answer in
     let left = rw c.parameters_of-p.ensures at made.ensures in let whole = one_drawn (encrypt_draws p args.public.now) args.work.now
     (scheme.ciphertext p args.public.now args.message.now args.seed.now) args.ciphertext.now
-    (passed (goal.at.returns c).In-Done) left (c.clear.ensures ∙ ap (λ (n : ℕ). replicate n 0) made.auto.work) in record { answer = whole.0; given = whole.1; cleared = whole.2 }
+    (passed (goal.at.returns c).In-Done) (left.answer, left.sealed) (c.clear.ensures ∙ ap (λ (n : ℕ). replicate n 0) made.auto.work) in record { answer = whole.0; given = whole.1.0; cleared = whole.1.1 }

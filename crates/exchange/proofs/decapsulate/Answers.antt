@@ -30,7 +30,7 @@ returns-in_default c =
     let args = c.args in
     let p = set_of args.set in let whole = one_refused (decapsulate_draws p args.secret.now) args.work.now
     (decapsulated p args.secret.now args.ciphertext.now) args.shared.now
-    c.decrypt_checked-checked.ensures (ap outcome c.in_default.is) in record { answer = whole.0; agreed = whole.1; cleared = whole.2 }
+    c.decrypt_checked-checked.ensures (ap outcome c.in_default.is) in record { answer = whole.0; agreed = whole.1.0; cleared = whole.1.1 }
 
 pub decapsulated_key-answer-requires : goal.decapsulated_key-answer-requires
 decapsulated_key-answer-requires c =
@@ -53,4 +53,4 @@ returns c =
     let made = c.decapsulated_key-answer in
     let left = rw c.parameters_of-p.ensures at made.ensures in let whole = one_drawn (decapsulate_draws p args.secret.now) args.work.now
     (decapsulated p args.secret.now args.ciphertext.now) args.shared.now
-    (passed (goal.at.returns c).In-Done) left (c.clear.ensures ∙ ap (λ (n : ℕ). replicate n 0) made.auto.work) in record { answer = whole.0; agreed = whole.1; cleared = whole.2 }
+    (passed (goal.at.returns c).In-Done) (left.answer, left.agreed) (c.clear.ensures ∙ ap (λ (n : ℕ). replicate n 0) made.auto.work) in record { answer = whole.0; agreed = whole.1.0; cleared = whole.1.1 }

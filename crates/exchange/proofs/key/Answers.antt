@@ -31,7 +31,7 @@ returns-in_default c =
     let p = set_of args.set in let whole = two_refused (key_draws p (inner_seed p args.seed.now)) args.work.now
     (exchange_public_key p args.seed.now) args.public.now
     (exchange_secret_key p args.seed.now) args.secret.now
-    c.key_checked-checked.ensures (ap outcome c.in_default.is) in record { answer = whole.0; given = whole.1; kept = whole.2; cleared = whole.3 }
+    c.key_checked-checked.ensures (ap outcome c.in_default.is) in record { answer = whole.0; given = whole.1.0; kept = whole.1.1.0; cleared = whole.1.1.1 }
 
 pub keygen-answer-requires : goal.keygen-answer-requires
 keygen-answer-requires c =
@@ -55,4 +55,4 @@ returns c =
     let left = rw c.parameters_of-p.ensures at made.ensures in let whole = two_drawn (key_draws p (inner_seed p args.seed.now)) args.work.now
     (exchange_public_key p args.seed.now) args.public.now
     (exchange_secret_key p args.seed.now) args.secret.now
-    (passed (goal.at.returns c).In-Done) left (c.clear.ensures ∙ ap (λ (n : ℕ). replicate n 0) made.auto.work) in record { answer = whole.0; given = whole.1; kept = whole.2; cleared = whole.3 }
+    (passed (goal.at.returns c).In-Done) (left.answer, (left.given, left.kept)) (c.clear.ensures ∙ ap (λ (n : ℕ). replicate n 0) made.auto.work) in record { answer = whole.0; given = whole.1.0; kept = whole.1.1.0; cleared = whole.1.1.1 }
