@@ -6,4 +6,4 @@ use Rattle.c_encryption.proofs.titanium_decrypt.Goals as goal
 
 pub returns : goal.returns
 returns c =
-    let made = c.decrypt.ensures in let whole = (c.code.ensures ∙ ap coded made.answer, made.read) in record { answer = whole.0; read = whole.1; cleared = whole.2 }
+    let made = c.decrypt.ensures in record { answer = c.code.ensures ∙ ap coded made.answer; read = made.read; cleared = made.cleared }

@@ -6,4 +6,4 @@ use Rattle.c_encryption.proofs.titanium_encrypt.Goals as goal
 
 pub returns : goal.returns
 returns c =
-    let made = c.encrypt.ensures in let whole = (c.code.ensures ∙ ap coded made.answer, made.given) in record { answer = whole.0; given = whole.1; cleared = whole.2 }
+    let made = c.encrypt.ensures in record { answer = c.code.ensures ∙ ap coded made.answer; given = made.given; cleared = made.cleared }

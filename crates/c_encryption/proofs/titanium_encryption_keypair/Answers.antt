@@ -6,4 +6,4 @@ use Rattle.c_encryption.proofs.titanium_encryption_keypair.Goals as goal
 
 pub returns : goal.returns
 returns c =
-    let made = c.key.ensures in let whole = (c.code.ensures ∙ ap coded made.answer, made.given) in record { answer = whole.0; given = whole.1; kept = whole.2; cleared = whole.3 }
+    let made = c.key.ensures in record { answer = c.code.ensures ∙ ap coded made.answer; given = made.given; kept = made.kept; cleared = made.cleared }

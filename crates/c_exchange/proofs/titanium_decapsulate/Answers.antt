@@ -6,4 +6,4 @@ use Rattle.c_exchange.proofs.titanium_decapsulate.Goals as goal
 
 pub returns : goal.returns
 returns c =
-    let made = c.decapsulate.ensures in let whole = (c.code.ensures ∙ ap coded made.answer, made.agreed) in record { answer = whole.0; agreed = whole.1; cleared = whole.2 }
+    let made = c.decapsulate.ensures in record { answer = c.code.ensures ∙ ap coded made.answer; agreed = made.agreed; cleared = made.cleared }

@@ -6,4 +6,4 @@ use Rattle.c_exchange.proofs.titanium_encapsulate.Goals as goal
 
 pub returns : goal.returns
 returns c =
-    let made = c.encapsulate.ensures in let whole = (c.code.ensures ∙ ap coded made.answer, made.given) in record { answer = whole.0; given = whole.1; agreed = whole.2; cleared = whole.3 }
+    let made = c.encapsulate.ensures in record { answer = c.code.ensures ∙ ap coded made.answer; given = made.given; agreed = made.agreed; cleared = made.cleared }

@@ -26,9 +26,7 @@ room_of : (c : In-loop-i)
     → Room c.args.p c.loop-i.i
     c.args.j
 room_of c =
-    let start =
-    c in room start.args.p start.pre.0 start.pre.1 c.loop-i.i
-    start.args.j (omega arith) start.pre.7
+    room c.args.p c.requires.0 c.requires.1 c.loop-i.i c.args.j (omega arith) c.requires.7
 
 pub overflow_mul-row : goal.overflow_mul-row
 overflow_mul-row c = omega (arith, (room_of c).multipliers_in, (room_of c).few_multipliers)
