@@ -43,7 +43,6 @@ recover_first-requires c =
 
 -- after the recovery
 module _ (c : After-recover_first) where
-
   -- the set's parameters
   abbrev p : Parameters
   p = c.args.p

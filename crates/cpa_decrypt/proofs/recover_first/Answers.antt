@@ -31,7 +31,6 @@ reduce_all-requires c =
 
 -- after the numbers are taken modulo q: the start, the set's parameters, and the numbers that are packed
 module _ (c : After-reduce_all) where
-
   abbrev p : Parameters
   p = c.args.p
 

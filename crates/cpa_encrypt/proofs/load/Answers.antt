@@ -104,5 +104,8 @@ drawn_size c = c.multipliers_from.auto.out ∙ multipliers_size (goal.at.After-m
 
 pub returns : goal.returns
 returns c =
-    record { answer = sym (checked (goal.at.returns c).After-read_key-below); held = loaded c.args.p c.args.key.now c.args.seed.now c.args.work.now _ _ _ c.multiplier_count.ensures
-          (numbers_size (goal.at.returns c).After-read_key-below) (drawn_size (goal.at.returns c).After-multipliers_from) (numbers_are (goal.at.returns c).After-read_key-below) c.multipliers_from.ensures }
+    record {
+      answer = sym (checked (goal.at.returns c).After-read_key-below);
+      held = loaded c.args.p c.args.key.now c.args.seed.now c.args.work.now _ _ _ c.multiplier_count.ensures
+          (numbers_size (goal.at.returns c).After-read_key-below) (drawn_size (goal.at.returns c).After-multipliers_from) (numbers_are (goal.at.returns c).After-read_key-below) c.multipliers_from.ensures;
+    }

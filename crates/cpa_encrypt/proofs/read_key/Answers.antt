@@ -13,6 +13,9 @@ use Rattle.cpa_encrypt.proofs.read_key.Goals as goal
 pub returns : goal.returns
 unfolding only_residues
 returns c =
-    let made = c.unpack_into.ensures in record { answer = ap (λ (n : ℕ). not (ltb n (length c.unpack_into.new.out))) c.first_at_least-first.ensures
+    let made = c.unpack_into.ensures in record {
+      answer = ap (λ (n : ℕ). not (ltb n (length c.unpack_into.new.out))) c.first_at_least-first.ensures
           ∙ ap (λ (xs : List ℕ). not (ltb (passing (below c.args.p.q) 0 xs) (length xs)))
-          made; result = made }
+          made;
+      result = made;
+    }

@@ -36,6 +36,9 @@ returns-in_default c =
 
 pub returns : goal.returns
 returns c =
-    let pre = c.requires in record { answer = sym (refuse_taken accepted (took (goal.at.returns c).In-Counter).all_taken_lem); result = λ t.
+    let pre = c.requires in record {
+      answer = sym (refuse_taken accepted (took (goal.at.returns c).In-Counter).all_taken_lem);
+      result = λ t.
           secret_held c.args.p pre.0 pre.1 c.args.seed.now c.args.work.now _ _ _ pre.3 t (took (goal.at.returns c).In-Counter).next_is
-          (c.draw_stored-drawn.ensures.result t) c.draw_errors.ensures }
+          (c.draw_stored-drawn.ensures.result t) c.draw_errors.ensures;
+    }

@@ -38,6 +38,9 @@ returns c =
     let seed = c.args.seed.now in
     let work = c.args.work.now in
     let drawn = c.residues_from in
-    let front = front_length work p.d3 (room (goal.at.returns c).Start) in record { answer = drawn.ensures.answer ∙ secret_answer p seed front; result = λ t.
+    let front = front_length work p.d3 (room (goal.at.returns c).Start) in record {
+      answer = drawn.ensures.answer ∙ secret_answer p seed front;
+      result = λ t.
           over_lent work 0 drawn.new.out p.d3 (omega (arith, drawn.auto.out, front))
-          ∙ ap (over work 0) (drawn.ensures.result (stored_secret p seed) (secret_draw_lem p seed front ∙ taken_numbers (secret_drawn p seed) t)) }
+          ∙ ap (over work 0) (drawn.ensures.result (stored_secret p seed) (secret_draw_lem p seed front ∙ taken_numbers (secret_drawn p seed) t));
+    }

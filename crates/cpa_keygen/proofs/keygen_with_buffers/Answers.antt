@@ -63,9 +63,13 @@ returns c =
     let p = c.args.p in
     let seed = c.args.seed.now in
     let accepted-key = ap outcome c.in-Done.is in
-    let decided = draws_decide p seed _ _ (first_is (goal.at.returns c).After-source_bytes) (second_is (goal.at.returns c).After-source_bytes) vectors.ensures.answer ∙ accepted-key in record { answer = sym decided; public = c.write_public_key.ensures
-            ∙ key_made p seed _ _ (first_is (goal.at.returns c).After-source_bytes) (second_is (goal.at.returns c).After-source_bytes) _ (vectors.ensures.result accepted-key)
-            ∙ sym (leaves_accepted _ _ decided); secret = c.copy_at.ensures
-            ∙ over_whole _ _ (secret_size (goal.at.returns c).After-source_bytes-next ∙ sym c.requires.4)
-            ∙ first_is (goal.at.returns c).After-source_bytes
-            ∙ sym (leaves_accepted _ _ decided) }
+    let decided = draws_decide p seed _ _ (first_is (goal.at.returns c).After-source_bytes) (second_is (goal.at.returns c).After-source_bytes) vectors.ensures.answer ∙ accepted-key in record {
+      answer = sym decided;
+      public = c.write_public_key.ensures
+          ∙ key_made p seed _ _ (first_is (goal.at.returns c).After-source_bytes) (second_is (goal.at.returns c).After-source_bytes) _ (vectors.ensures.result accepted-key)
+          ∙ sym (leaves_accepted _ _ decided);
+      secret = c.copy_at.ensures
+          ∙ over_whole _ _ (secret_size (goal.at.returns c).After-source_bytes-next ∙ sym c.requires.4)
+          ∙ first_is (goal.at.returns c).After-source_bytes
+          ∙ sym (leaves_accepted _ _ decided);
+    }

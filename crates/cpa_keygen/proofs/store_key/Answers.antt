@@ -35,7 +35,10 @@ returns c =
     let pre = c.requires in
     let secret = c.draw_secret-drawn in
     let vectors = c.store_vectors in
-    let drawn = draw_accepted _ accepted (sym secret.ensures.answer ∙ ap outcome c.in-Done.is) in record { answer = vectors.ensures.answer ∙ sym (refuse_taken _ drawn.0); result = λ e.
+    let drawn = draw_accepted _ accepted (sym secret.ensures.answer ∙ ap outcome c.in-Done.is) in record {
+      answer = vectors.ensures.answer ∙ sym (refuse_taken _ drawn.0);
+      result = λ e.
           key_stored c.args.p pre.0 pre.1 c.args.seedsk.now secret.new.work (secret.ensures.result drawn.0)
           (secret.auto.work ∙ pre.4) c.args.seedpk.now _
-          (vectors.ensures.result (draw_accepted _ accepted (sym vectors.ensures.answer ∙ e)).0) }
+          (vectors.ensures.result (draw_accepted _ accepted (sym vectors.ensures.answer ∙ e)).0);
+    }

@@ -35,12 +35,11 @@ returns-in_default-answer c =
     let told = ap outcome c.in_default-answer.is in let whole = refused_both _ _ told (answer (goal.at.returns-in_default-answer c).After-look-answer ∙ told) in record { answer = whole.0; result = whole.1 }
 
 pub fill-requires : goal.fill-requires
-fill-requires c =
-    (
-      modulus_some _ _ c.parameters_of-p.ensures (shape (goal.at.fill-requires c).In-Done).most,
-      sym c.look-answer.ensures
-          ∙ ap outcome c.in-Done-answer.is,
-    )
+fill-requires c = (
+  modulus_some _ _ c.parameters_of-p.ensures (shape (goal.at.fill-requires c).In-Done).most,
+  sym c.look-answer.ensures
+      ∙ ap outcome c.in-Done-answer.is,
+)
 
 pub returns : goal.returns
 unfolding residues_left

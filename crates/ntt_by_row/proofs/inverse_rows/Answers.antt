@@ -7,14 +7,13 @@ use Rattle.ntt_by_row.proofs.Lent.{doubled, scale_of, recover_front_lem}
 use Rattle.ntt_by_row.proofs.inverse_rows.Goals as goal
 
 pub inverse-requires : goal.inverse-requires
-inverse-requires c =
-    (
-      c.requires.0,
-      c.rows_used.ensures.0,
-      c.requires.1,
-      doubled c.requires.2,
-      rw c.scaled_twice-by.ensures (mod-lt _ (omega (arith, c.requires.0.modulus.some))),
-    )
+inverse-requires c = (
+  c.requires.0,
+  c.rows_used.ensures.0,
+  c.requires.1,
+  doubled c.requires.2,
+  rw c.scaled_twice-by.ensures (mod-lt _ (omega (arith, c.requires.0.modulus.some))),
+)
 
 pub returns : goal.returns
 returns c w made =

@@ -12,13 +12,12 @@ scale_first-requires c =
     (rules_odd c.args.p (listed_rules c.args.p c.requires.0), omega (arith, placed.size, placed.inside))
 
 pub send_first-requires : goal.send_first-requires
-send_first-requires c =
-    (
-      c.requires.0,
-      c.requires.1,
-      rw c.scale_first.ensures
-          (scaled_placed c.args.p c.requires.0 c.args.i c.args.n c.args.x.now c.requires.2),
-    )
+send_first-requires c = (
+  c.requires.0,
+  c.requires.1,
+  rw c.scale_first.ensures
+      (scaled_placed c.args.p c.requires.0 c.args.i c.args.n c.args.x.now c.requires.2),
+)
 
 pub returns : goal.returns
 returns c =

@@ -7,13 +7,12 @@ use Rattle.numbers.proofs.ReadingLaws.{opened_at}
 use Rattle.numbers_reading.proofs.opened_place.Goals as goal
 
 pub subtract-requires : goal.subtract-requires
-subtract-requires c =
-    (
-      c.requires.1.second_residues c.args.j (omega (arith, c.requires.1.second_length)),
-      remainder_below _ c.product_place-middle.ensures
-          (omega (arith, c.requires.0.prime.above)),
-      c.requires.0.small,
-    )
+subtract-requires c = (
+  c.requires.1.second_residues c.args.j (omega (arith, c.requires.1.second_length)),
+  remainder_below _ c.product_place-middle.ensures
+      (omega (arith, c.requires.0.prime.above)),
+  c.requires.0.small,
+)
 
 pub returns : goal.returns
 returns c =

@@ -8,11 +8,10 @@ slice_bounds-rs-end c =
     omega (arith, c.requires.1.multipliers_length, c.requires.0.most_multipliers)
 
 pub fill-requires : goal.fill-requires
-fill-requires c =
-    (
-      c.requires.0,
-      c.requires.1,
-      omega (arith, c.requires.1.multipliers_length, c.requires.0.most_multipliers),
-      c.requires.2,
-      c.requires.3,
-    )
+fill-requires c = (
+  c.requires.0,
+  c.requires.1,
+  omega (arith, c.requires.1.multipliers_length, c.requires.0.most_multipliers),
+  c.requires.2,
+  c.requires.3,
+)

@@ -34,9 +34,10 @@ loop-j-preserved c =
     let now = c.loop-j in
     let p = now.invariant.0 in
     let more : now.j < length c.pack_words-j.new.out = omega arith in (
-      elim c.if-bit-kept.branch
-      [ then-bit-kept w ↦ position_next 1 p (omega arith) (omega arith) (omega arith)
-      | else-bit-kept w ↦ position_next 0 p (omega arith) (omega arith) (omega arith) ],
+      elim c.if-bit-kept.branch [
+        | then-bit-kept w ↦ position_next 1 p (omega arith) (omega arith) (omega arith)
+        | else-bit-kept w ↦ position_next 0 p (omega arith) (omega arith) (omega arith)
+      ],
       filled_more 0 now.invariant.1 more (omega arith)
           (c.byte_of.ensures
           ∙ sym (pack_dropping_at a.width a.cmp _ now.i now.bit now.j a.numbers.now c.requires.widths c.requires.digit p more)),

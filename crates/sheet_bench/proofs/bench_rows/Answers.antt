@@ -10,15 +10,14 @@ returns-then-place-input c =
     let e = rows_refused c.args.input.now c.first_unfit-place.result c.first_unfit-place.ensures c.if-place-input.true in record { answer = sym e; noises = sym (leaves_refused _ _ e); bits = sym (leaves_refused _ _ e); reading = sym (leaves_refused _ _ e) }
 
 pub fill-requires : goal.fill-requires
-fill-requires c =
-    (
-      c.requires.0,
-      rows_accepted c.args.input.now c.first_unfit-place.result
-          c.first_unfit-place.ensures c.if-place-input.false,
-      c.requires.1,
-      c.requires.2,
-      c.requires.3,
-    )
+fill-requires c = (
+  c.requires.0,
+  rows_accepted c.args.input.now c.first_unfit-place.result
+      c.first_unfit-place.ensures c.if-place-input.false,
+  c.requires.1,
+  c.requires.2,
+  c.requires.3,
+)
 
 pub returns : goal.returns
 returns c =

@@ -5,17 +5,16 @@ use Rattle.calls.specs.Region.{region}
 use Rattle.sheet_bench.proofs.fill.Goals as goal
 
 pub take_steps-requires : goal.take_steps-requires
-take_steps-requires c =
-    (
-      record {
-        size = c.requires.0;
-        in_range = c.requires.1;
-        sent = c.copy_numbers.ensures
-            ∙ ap (region c.args.input.now 12) c.requires.3;
-      },
-      c.requires.2,
-      c.requires.4,
-    )
+take_steps-requires c = (
+  record {
+    size = c.requires.0;
+    in_range = c.requires.1;
+    sent = c.copy_numbers.ensures
+        ∙ ap (region c.args.input.now 12) c.requires.3;
+  },
+  c.requires.2,
+  c.requires.4,
+)
 
 pub returns : goal.returns
 returns c =

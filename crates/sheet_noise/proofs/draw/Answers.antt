@@ -59,13 +59,12 @@ part_size c =
     part_long c.draw_errors.new.work from (from + count) (omega (arith, c.draw_errors.auto.work, fits (goal.at.After-draw_errors c).After-multiplier_count)) ∙ left
 
 pub multipliers_from-requires : goal.multipliers_from-requires
-multipliers_from-requires c =
-    (
-      listed_rules c.args.p c.requires.1,
-      c.requires.0,
-      omega (arith, c.requires.3),
-      part_size (goal.at.multipliers_from-requires c).After-draw_errors ∙ c.multiplier_count.ensures,
-    )
+multipliers_from-requires c = (
+  listed_rules c.args.p c.requires.1,
+  c.requires.0,
+  omega (arith, c.requires.3),
+  part_size (goal.at.multipliers_from-requires c).After-draw_errors ∙ c.multiplier_count.ensures,
+)
 
 pub returns : goal.returns
 returns c =

@@ -43,6 +43,9 @@ returns c =
     let seed = c.args.seed.now in
     let i = c.args.i in
     let drawn = c.residues_from in
-    let front = front_length c.args.x.now p.n (room (goal.at.returns c).Start) in record { answer = drawn.ensures.answer ∙ public_answer p seed i front c.requires.4; result = λ t.
+    let front = front_length c.args.x.now p.n (room (goal.at.returns c).Start) in record {
+      answer = drawn.ensures.answer ∙ public_answer p seed i front c.requires.4;
+      result = λ t.
           take_at drawn.new.out _ p.n (drawn.auto.out ∙ front)
-          ∙ drawn.ensures.result (public_polynomial p seed i) (public_draw p seed i front c.requires.4 ∙ taken_numbers (public_drawn p seed i) t) }
+          ∙ drawn.ensures.result (public_polynomial p seed i) (public_draw p seed i front c.requires.4 ∙ taken_numbers (public_drawn p seed i) t);
+    }

@@ -42,7 +42,10 @@ pub returns : goal.returns
 returns c =
     let p = c.args.p in
     let work = c.args.work.now in
-    let polynomial = c.draw_polynomial-drawn in record { answer = polynomial.ensures.answer; result = λ t.
+    let polynomial = c.draw_polynomial-drawn in record {
+      answer = polynomial.ensures.answer;
+      result = λ t.
           c.store_vector.ensures
           ∙ ap (over work (vectors_start_of p + p.d1 * c.args.i))
-          (stored_is p c.args.seed.now work _ _ c.args.i c.key_vector.ensures (polynomial.ensures.result t)) }
+          (stored_is p c.args.seed.now work _ _ c.args.i c.key_vector.ensures (polynomial.ensures.result t));
+    }

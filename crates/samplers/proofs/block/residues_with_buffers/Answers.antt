@@ -43,10 +43,9 @@ loop-reached-smaller c =
     omega (arith, rises, c.loop-reached.invariant.1.unfinished)
 
 pub loop-reached-preserved : goal.loop-reached-preserved
-loop-reached-preserved c =
-    (
-      search rules,
-      drawing_more c.loop-reached.invariant.1 _ _ (rw c.loop-reached.invariant.0 at c.source_bytes-counter.ensures.bytes)
-          (rw c.loop-reached.invariant.0 at c.source_bytes-counter.ensures.state) _ _ _ c.requires.rules.2 (search rules) c.if-reached-out.false
-          (sym (ap standing c.in-Reached.is) ∙ c.continue_draw-progress.ensures.answer) c.continue_draw-progress.ensures.result,
-    )
+loop-reached-preserved c = (
+  search rules,
+  drawing_more c.loop-reached.invariant.1 _ _ (rw c.loop-reached.invariant.0 at c.source_bytes-counter.ensures.bytes)
+      (rw c.loop-reached.invariant.0 at c.source_bytes-counter.ensures.state) _ _ _ c.requires.rules.2 (search rules) c.if-reached-out.false
+      (sym (ap standing c.in-Reached.is) ∙ c.continue_draw-progress.ensures.answer) c.continue_draw-progress.ensures.result,
+)

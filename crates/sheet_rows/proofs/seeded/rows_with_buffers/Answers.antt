@@ -37,5 +37,8 @@ returns c =
     let args = c.args in
     let pre = c.requires in
     let opened = c.read_message-answer.ensures.read (ap outcome c.in-Done.is) in
-    let values = c.noise_of.ensures in record { answer = c.read_message-answer.ensures.answer; rows = λ _. rows_filled args.p args.seed.now args.message.now args.sealing.now _ _ _ _ _ _
-          values.values values.sizes c.bits_of.ensures pre.10 c.bits_of-2.ensures pre.11 opened }
+    let values = c.noise_of.ensures in record {
+      answer = c.read_message-answer.ensures.answer;
+      rows = λ _. rows_filled args.p args.seed.now args.message.now args.sealing.now _ _ _ _ _ _
+          values.values values.sizes c.bits_of.ensures pre.10 c.bits_of-2.ensures pre.11 opened;
+    }

@@ -13,12 +13,11 @@ use Rattle.sheet_text.proofs.TextLaws.{row_of, rows_none, rows_more, rows_front}
 use Rattle.sheet_text.proofs.rows.put_rows.Goals as goal
 
 pub loop-i-init : goal.loop-i-init
-loop-i-init c =
-    (
-      written_as (sym (rows_none c.args.noise.now c.args.sent.now c.args.read.now c.args.places.now))
-          (written_none (omega (arith, c.requires.2))),
-      omega arith,
-    )
+loop-i-init c = (
+  written_as (sym (rows_none c.args.noise.now c.args.sent.now c.args.read.now c.args.places.now))
+      (written_none (omega (arith, c.requires.2))),
+  omega arith,
+)
 
 pub offset_bounds-noise-place : goal.offset_bounds-noise-place
 offset_bounds-noise-place c =
