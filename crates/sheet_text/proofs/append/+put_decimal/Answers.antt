@@ -1,4 +1,4 @@
--- The proof of the cycle of calls {put_decimal}: the digits of a tenth of the number, then the last digit. The measure is the number.
+-- `sheet_text::append::put_decimal` meets its contract: the digits of a tenth of the number, then the last digit.
 -- Assumes nothing.
 use mathlib.Core.Path.{sym, ap, ◌∙◌}
 use mathlib.Core.List.{[], ◌∷◌, ◌++◌}
