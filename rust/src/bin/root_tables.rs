@@ -8,14 +8,16 @@ use std::path::{Path, PathBuf};
 
 const LEVELS: [&str; 6] = ["toy64", "lite96", "std128", "med160", "hi192", "super256"];
 const ORDINALS: [&str; 3] = ["first", "second", "third"];
+const LONGEST_LINE: usize = 99;
 
 const SOURCE: &str = "\
 // The powers of the roots of SETS. Written by root_tables, not by hand.
-ghost use mathlib.Core.Path.{_≡_};
-ghost use lib.ListN.{length};
-ghost use Rattle·maths.specs.Root.{powerTable};
-ghost use Rattle·sets.specs.Table.{setOf};
-ghost use Rattle·sets.specs.Derived.{transformSize, rootPowers};
+#![tactic(auto)]
+
+ghost use Rattle.std.specs.Prelude.{◌≡◌, length};
+ghost use Rattle.maths.specs.Root.{power_table};
+ghost use Rattle.sets.specs.Table.{set_of};
+ghost use Rattle.sets.specs.Derived.{transform_size_of, root_powers};
 ";
 
 const TABLE: &str = "
@@ -23,8 +25,8 @@ const TABLE: &str = "
 const POWERS_NAME: [u32; SIZE] = [ENTRIES];
 
 pub fn setOWNER_ORDINAL(out: &mut [u32])
-    requires { ⌜ length (now out) ≡ SIZE ⌝ }
-    ensures { λ _. ⌜ now (out .exit) ≡ powerTable MODULUS ROOT SIZE ⌝ }
+    requires { length out.old ≡ SIZE }
+    ensures { out.new ≡ power_table MODULUS ROOT SIZE }
 {
     calls::copy_in(out, 0, &POWERS_NAME);
 }
@@ -33,32 +35,26 @@ pub fn setOWNER_ORDINAL(out: &mut [u32])
 const TABLE_PROOF: &str = "\
 -- The table passes the test of recurrence, so it holds the powers of its root. Written by root_tables, not by hand.
 -- Assumes nothing.
-use mathlib.Core.Path.{refl, sym, _∙_}
-use borrow.Author.Needs.{needs}
+use mathlib.Core.Path.{refl, sym, ◌∙◌}
 use lib.Dec.{lit<}
-use Rattle·maths.specs.Root.{continues, isPowerTable}
-use Rattle·maths.proofs.PowerTable.{power-table}
-use Rattle·calls.proofs.Region.{over-whole}
-use Rattle·CRATE·proofs.proofs.setOWNER_ORDINAL.Statement.{statement}
-use Rattle·CRATE·proofs.proofs.setOWNER_ORDINAL.Tie as tie
+use Rattle.maths.specs.Root.{continues, is_power_table}
+use Rattle.maths.proofs.PowerTable.{power_table_lem}
+use Rattle.calls.proofs.Region.{over_whole}
+use Rattle.CRATE.proofs.setOWNER_ORDINAL.Goals as goal
 
-returns : tie.Need-returns
-unfolding continues isPowerTable
+pub returns : goal.returns
+unfolding continues is_power_table
 returns c =
-    c .before .before .copy-in .ensures
-    ∙ over-whole _ _ (sym (c .before .before .before .before .before .before .pre))
-    ∙ power-table MODULUS ROOT SIZE _ (lit< tt) refl
-
-pub setOWNER-ORDINAL-spec : {M : Type 1} → statement M
-setOWNER-ORDINAL-spec =
-    tie.close (tie.spec (λ c. search needs) (λ c κs. search needs) (λ c. search needs) returns)
+    c.copy_in.ensures
+    ∙ over_whole _ _ (sym c.requires)
+    ∙ power_table_lem MODULUS ROOT SIZE _ (lit< tt) refl
 ";
 
 const LOADER: &str = "
 // The powers of root number i of set NUMBER.
 pub fn load_setNUMBER(i: usize, out: &mut [u32])
-    requires { ⌜ length (now out) ≡ transformSize (setOf NUMBER) i ⌝ }
-    ensures { λ _. ⌜ now (out .exit) ≡ rootPowers (setOf NUMBER) i ⌝ }
+    requires { length out.old ≡ transform_size_of (set_of NUMBER) i }
+    ensures { out.new ≡ root_powers (set_of NUMBER) i }
 {
     if i == 1 {
         setOWNER_first(out);
@@ -73,64 +69,45 @@ pub fn load_setNUMBER(i: usize, out: &mut [u32])
 const LOADER_PROOF: &str = "\
 -- Each branch copies out the table of its root. Written by root_tables, not by hand.
 -- Assumes nothing.
-use mathlib.Core.Path.{sym, _∙_}
-use borrow.Author.Needs.{needs}
-use Rattle·sets.specs.Table.{none, table, setOf}
-use Rattle·sets.proofs.Transforms.{size-first, size-second, size-third, powers-first, powers-second, powers-third}
-use Rattle·CRATE·proofs.proofs.load_setNUMBER.Statement.{statement}
-use Rattle·CRATE·proofs.proofs.load_setNUMBER.Tie as tie
+use mathlib.Core.Path.{sym, ◌∙◌}
+use Rattle.sets.specs.Table.{none, table, set_of}
+use Rattle.sets.proofs.Transforms.{size_first, size_second, size_third, powers_first, powers_second, powers_third}
+use Rattle.CRATE.proofs.load_setNUMBER.Goals as goal
 
-first-requires : tie.Need-setOWNER-first-requires
-unfolding none table setOf
-first-requires c κs =
-    c .before .before .before .pre ∙ size-first (setOf NUMBER) (c .before .before .before .args .i) (c .before .if1 .taken)
+pub setOWNER_first-requires : goal.setOWNER_first-requires
+unfolding none table set_of
+setOWNER_first-requires c =
+    c.requires ∙ size_first (set_of NUMBER) c.args.i c.if-i-eq1.true
 
-second-requires : tie.Need-setOWNER-second-requires
-unfolding none table setOf
-second-requires c κs =
-    c .before .before .before .before .pre
-    ∙ size-second (setOf NUMBER) (c .before .before .before .before .args .i) (c .before .if2 .taken)
+pub setOWNER_second-requires : goal.setOWNER_second-requires
+unfolding none table set_of
+setOWNER_second-requires c =
+    c.requires
+    ∙ size_second (set_of NUMBER) c.args.i c.if-i-eq2.true
 
-third-requires : tie.Need-setOWNER-third-requires
-unfolding none table setOf
-third-requires c κs =
-    c .before .before .before .before .pre
-    ∙ size-third (setOf NUMBER) (c .before .before .before .before .args .i) (c .before .before .if1 .left) (c .before .if2 .left)
+pub setOWNER_third-requires : goal.setOWNER_third-requires
+unfolding none table set_of
+setOWNER_third-requires c =
+    c.requires
+    ∙ size_third (set_of NUMBER) c.args.i c.if-i-eq1.false c.if-i-eq2.false
 
-returns : tie.Need-returns
-unfolding none table setOf
-returns c =
-    let early = c .before .before .before .before in
-    c .before .before .setOWNER-first .ensures
-    ∙ sym (powers-first (setOf NUMBER) (early .before .before .args .i) (early .if1 .taken))
+pub returns-then-i-eq1 : goal.returns-then-i-eq1
+unfolding none table set_of
+returns-then-i-eq1 c =
+    c.setOWNER_first.ensures
+    ∙ sym (powers_first (set_of NUMBER) c.args.i c.if-i-eq1.true)
 
-returns-2 : tie.Need-returns-2
-unfolding none table setOf
-returns-2 c =
-    let early = c .before .before .before .before in
-    c .before .before .setOWNER-second .ensures
-    ∙ sym (powers-second (setOf NUMBER) (early .before .before .before .args .i) (early .if2 .taken))
+pub returns-then-i-eq2 : goal.returns-then-i-eq2
+unfolding none table set_of
+returns-then-i-eq2 c =
+    c.setOWNER_second.ensures
+    ∙ sym (powers_second (set_of NUMBER) c.args.i c.if-i-eq2.true)
 
-returns-3 : tie.Need-returns-3
-unfolding none table setOf
-returns-3 c =
-    let early = c .before .before .before .before in
-    c .before .before .setOWNER-third .ensures
-    ∙ sym (powers-third (setOf NUMBER) (early .before .before .before .args .i) (early .before .if1 .left) (early .if2 .left))
-
-pub load-setNUMBER-spec : {M : Type 1} → statement M
-load-setNUMBER-spec =
-    tie.close
-    (tie.spec
-    first-requires
-    second-requires
-    third-requires
-    (λ c. search needs)
-    returns
-    (λ c. search needs)
-    returns-2
-    (λ c. search needs)
-    returns-3)
+pub returns-else-i-eq2 : goal.returns-else-i-eq2
+unfolding none table set_of
+returns-else-i-eq2 c =
+    c.setOWNER_third.ensures
+    ∙ sym (powers_third (set_of NUMBER) c.args.i c.if-i-eq1.false c.if-i-eq2.false)
 ";
 
 /// A file of the repository and its text.
@@ -144,10 +121,29 @@ fn fill(template: &str, words: &[(&str, String)]) -> String {
     words.iter().fold(template.to_string(), |text, (word, value)| text.replace(word, value))
 }
 
+/// The entries of a table: a short one stays on the line of its name, a long one fills lines of its own.
+fn entries(table: &[u64]) -> String {
+    let numbers: Vec<String> = table.iter().map(u64::to_string).collect();
+    if numbers.len() < 8 {
+        return numbers.join(", ");
+    }
+    format!("\n{}\n", lines(&numbers).join("\n"))
+}
+
+/// The numbers in indented lines, each with as many as fit, and a comma after every number.
+fn lines(numbers: &[String]) -> Vec<String> {
+    let mut all: Vec<String> = Vec::new();
+    for number in numbers {
+        match all.last_mut() {
+            Some(line) if line.len() + number.len() + 2 <= LONGEST_LINE => *line += &format!(" {number},"),
+            _ => all.push(format!("    {number},")),
+        }
+    }
+    all
+}
+
 /// What the templates say of root number i + 1 of a set.
 fn words(crate_name: &str, s: &Set, i: usize) -> Vec<(&'static str, String)> {
-    let table: Vec<String> = powers(s.q, s.roots[i], s.sizes[i]).iter().map(u64::to_string).collect();
-    let entries = if table.len() < 8 { table.join(", ") } else { format!("\n    {},\n", table.join(",\n    ")) };
     vec![
         ("CRATE", crate_name.to_string()),
         ("POWERS_NAME", format!("POWERS{}_{}", s.number, ORDINALS[i].to_uppercase())),
@@ -156,7 +152,7 @@ fn words(crate_name: &str, s: &Set, i: usize) -> Vec<(&'static str, String)> {
         ("MODULUS", s.q.to_string()),
         ("ROOT", s.roots[i].to_string()),
         ("SIZE", s.sizes[i].to_string()),
-        ("ENTRIES", entries),
+        ("ENTRIES", entries(&powers(s.q, s.roots[i], s.sizes[i]))),
     ]
 }
 
@@ -166,7 +162,7 @@ fn tables(crate_name: &str, s: &Set, roots: usize) -> (String, Vec<Generated>) {
     let all: Vec<_> = (0..roots).map(|i| words(crate_name, s, i)).collect();
     let source = all.iter().map(|w| fill(TABLE, w)).collect();
     let proof = |(i, w): (usize, &Vec<_>)| Generated {
-        path: folder.join(format!("set{}_{}", s.number, ORDINALS[i])).join("Proof.antt"),
+        path: folder.join(format!("set{}_{}", s.number, ORDINALS[i])).join("Answers.antt"),
         text: fill(TABLE_PROOF, w),
     };
     (source, all.iter().enumerate().map(proof).collect())
@@ -176,7 +172,7 @@ fn tables(crate_name: &str, s: &Set, roots: usize) -> (String, Vec<Generated>) {
 fn bench() -> Vec<Generated> {
     let s = set(0).unwrap();
     let (source, mut files) = tables("roots_bench", &s, 1);
-    let heading: String = SOURCE.lines().filter(|line| !line.contains("·sets.")).map(|line| format!("{line}\n")).collect();
+    let heading: String = SOURCE.lines().filter(|line| !line.contains(".sets.")).map(|line| format!("{line}\n")).collect();
     let text = fill(&heading, &[("SETS", "set 0".to_string())]) + &source;
     files.push(Generated { path: PathBuf::from("crates/roots_bench/src/lib.rt"), text });
     files
@@ -199,7 +195,7 @@ fn level(i: usize) -> Vec<Generated> {
         let mut w = vec![("NUMBER", s.number.to_string())];
         w.extend(words(&crate_name, &owner, 0));
         source += &fill(LOADER, &w);
-        let path = Path::new("crates").join(&crate_name).join(format!("proofs/load_set{}/Proof.antt", s.number));
+        let path = Path::new("crates").join(&crate_name).join(format!("proofs/load_set{}/Answers.antt", s.number));
         files.push(Generated { path, text: fill(LOADER_PROOF, &w) });
     }
     files.push(Generated { path: Path::new("crates").join(&crate_name).join("src/lib.rt"), text: source });
