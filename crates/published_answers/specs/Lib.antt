@@ -1,2 +1,3 @@
+pub mod Aes
 pub mod Permutation
 pub mod Sponge

@@ -1,0 +1,15 @@
+-- `aes::cipher::encrypt` meets its contract: after n turns the state is that of n rounds.
+-- Assumes nothing.
+use mathlib.Core.Path.{◌≡◌}
+use mathlib.Core.List.{List}
+use Prim.Native.Nat.{ℕ, ◌-◌, ◌≤◌}
+use Rattle.aes.specs.Cipher.{rounds}
+use Rattle.aes_tables.specs.Words.{columns, schedule}
+use Rattle.aes.proofs.cipher.encrypt.Given as goal
+
+abbrev pub invariant-loop-n : goal.invariant-loop-n
+invariant-loop-n l =
+    (l.n ≤ 13) × ((first : List (List ℕ)) → columns l.initial.s ≡ rounds (schedule l.keys) 0 first → columns l.s ≡ rounds (schedule l.keys) l.n first)
+
+abbrev pub decreases-loop-n : goal.decreases-loop-n
+decreases-loop-n l = 13 - l.n

@@ -1,0 +1,4 @@
+pub mod Field
+pub mod State
+pub mod Substitution
+pub mod Words

@@ -1,0 +1,85 @@
+// Words as numbers of 32 bits (specs/Words.antt).
+ghost use Rattle.std.specs.Prelude.{◌≡◌, [], ◌∷◌, ◌+◌, ◌%◌, ◌≤◌, length};
+ghost use Rattle.maths.specs.Vector.{at};
+ghost use Rattle.aes_tables.specs.State.{four, state_of, block_of};
+ghost use Rattle.aes_tables.specs.Words.{byte_of, word, columns};
+
+// The word of four bytes.
+pub fn word_of(b0: u8, b1: u8, b2: u8, b3: u8) -> u32
+    ensures { word result ≡ b0 ∷ b1 ∷ b2 ∷ b3 ∷ [] }
+{
+    (b0 as u32) + (b1 as u32) * 256 + (b2 as u32) * 65536 + (b3 as u32) * 16777216
+}
+
+// Four bytes of a slice as a word.
+pub fn word_at(bytes: &[u8], start: usize) -> u32
+    requires { start + 4 ≤ length bytes.now }
+    ensures { word result ≡ four (λ i. at bytes.now (start + i)) }
+{
+    word_of(
+        bytes[start],
+        bytes[start + 1],
+        bytes[start + 2],
+        bytes[start + 3],
+    )
+}
+
+// The state of a block.
+pub fn columns_of(block: &[u8]) -> [u32; 4]
+    requires { length block.now ≡ 16 }
+    ensures { columns result ≡ state_of block.now }
+{
+    [
+        word_at(block, 0),
+        word_at(block, 4),
+        word_at(block, 8),
+        word_at(block, 12),
+    ]
+}
+
+// A word whose bytes move up by one place, the last one to the front.
+pub fn rotate_one(w: u32) -> u32
+    ensures { word result ≡ four (λ i. byte_of ((i + 3) % 4) w) }
+{
+    w % 16777216 * 256 + w / 16777216
+}
+
+// The same by two places.
+pub fn rotate_two(w: u32) -> u32
+    ensures { word result ≡ four (λ i. byte_of ((i + 2) % 4) w) }
+{
+    w % 65536 * 65536 + w / 65536
+}
+
+// The same by three places, which is one place down.
+pub fn rotate_three(w: u32) -> u32
+    ensures { word result ≡ four (λ i. byte_of ((i + 1) % 4) w) }
+{
+    w % 256 * 16777216 + w / 256
+}
+
+// The bytes of a word.
+fn word_bytes(w: u32) -> [u8; 4]
+    ensures { result ≡ word w }
+{
+    [
+        (w % 256) as u8,
+        (w / 256 % 256) as u8,
+        (w / 256 / 256 % 256) as u8,
+        (w / 256 / 256 / 256 % 256) as u8,
+    ]
+}
+
+// The block of a state.
+pub fn block_of(s: [u32; 4]) -> [u8; 16]
+    ensures { result ≡ block_of (columns s) }
+{
+    let a = word_bytes(s[0]);
+    let b = word_bytes(s[1]);
+    let c = word_bytes(s[2]);
+    let d = word_bytes(s[3]);
+    [
+        a[0], a[1], a[2], a[3], b[0], b[1], b[2], b[3], c[0], c[1], c[2], c[3], d[0], d[1], d[2],
+        d[3],
+    ]
+}
