@@ -69,7 +69,9 @@ class Function:
         arms = self.d["arms"]
         for i, a in enumerate(arms):
             if a:
-                best = max((j for j, b in enumerate(arms) if b and b[0] == a[0] and self.ups(norm(self.d["places"][j][0]), norm(self.d["places"][i][0])) is not None), key=lambda j: arms[j][1])
+                point = [norm(p[0]) for p in self.d["places"]]
+                same = (j for j, b in enumerate(arms) if b and b[0] == a[0] and self.ups(point[j], point[i]) is not None)
+                best = max(same, key=lambda j: arms[j][1])
                 self.place[norm(self.d["places"][i][0])] = names[best]
         self.loops = {norm(a): (b, vs, ch) for ((a, b), vs), ch in zip(self.d["loops"], self.d["changed"])}
         self.need = {}
@@ -256,10 +258,12 @@ def drop_point_lets(text, var):
             return text
         a = m.group(1)
         if a == "at":
-            rest = re.sub(r"(?<![\w.'₀-₉-])(" + "|".join(sorted(map(re.escape, POINTS), key=len, reverse=True)) + r") at(?![\w'₀-₉-])", lambda k: f"{k.group(1)} {var}", text[m.end():])
+            lemmas = "|".join(sorted(map(re.escape, POINTS), key=len, reverse=True))
+            rest = re.sub(r"(?<![\w.'₀-₉-])(" + lemmas + r") at(?![\w'₀-₉-])", lambda k: f"{k.group(1)} {var}", text[m.end():])
             rest = re.sub(r"= at in(?![\w-])", f"= {var} in", rest)
             text = text[:m.end()] + rest
-        text = text[:m.start()] + re.sub(r"(?<![\w.'₀-₉-])" + re.escape(a) + r"(?![\w'₀-₉-])(?!\s*=[^=])" + (r"(?=[.)])" if a == "at" else ""), var, text[m.end():])
+        after = r"(?=[.)])" if a == "at" else ""
+        text = text[:m.start()] + re.sub(r"(?<![\w.'₀-₉-])" + re.escape(a) + r"(?![\w'₀-₉-])(?!\s*=[^=])" + after, var, text[m.end():])
 
 
 def rename_fields(text, f, var):
@@ -468,7 +472,8 @@ def turn(f, folder):
             if len(params) != len(want):
                 f.said.append(f"{name}: {len(params)} parameters, {len(want)} variables: {vs} {ch}")
             to = dict(zip(params, want))
-            rhs = re.sub(r"(?<![\w.'₀-₉-])(" + "|".join(sorted(map(re.escape, params), key=len, reverse=True)) + r")(?![\w'₀-₉-])", lambda m: to[m.group(1)], rhs)
+            names = "|".join(sorted(map(re.escape, params), key=len, reverse=True))
+            rhs = re.sub(r"(?<![\w.'₀-₉-])(" + names + r")(?![\w'₀-₉-])", lambda m: to[m.group(1)], rhs)
             unf = "".join(l + "\n" for l in body.split("\n") if l.startswith("unfolding"))
             comments = "".join(l + "\n" for l in body.split("\n") if l.startswith("--"))
             inv.append(f"{comments}abbrev pub {kind}-{new} : goal.{kind}-{new}\n{unf}{kind}-{new} l ={rhs.rstrip()}")
@@ -585,9 +590,11 @@ def turn(f, folder):
         return out
 
     if inv:
-        local = [b for n, b in kept if n and n not in helpers and "tie." not in b and any(re.search(r"(?<![\w.'₀-₉-])" + re.escape(n) + r"(?![\w'₀-₉-])", x) for x in inv)]
+        cited = lambda n: any(re.search(r"(?<![\w.'₀-₉-])" + re.escape(n) + r"(?![\w'₀-₉-])", x) for x in inv)
+        local = [b for n, b in kept if n and n not in helpers and "tie." not in b and cited(n)]
         names = [n for n, b in kept if b in local]
-        moved = [("pub " + b if False else re.sub(r"^(abbrev |unfoldable )?(pub )?(" + re.escape(n) + r" [:({])", lambda m: (m.group(1) or "") + "pub " + m.group(3), b, count=1, flags=re.M)) for n, b in kept if b in local]
+        public = lambda m: (m.group(1) or "") + "pub " + m.group(3)
+        moved = [re.sub(r"^(abbrev |unfoldable )?(pub )?(" + re.escape(n) + r" [:({])", public, b, count=1, flags=re.M) for n, b in kept if b in local]
         ans = [a for a in ans if a not in local]
         us = needed(uses, inv + moved)
         open(os.path.join(folder, "Invariants.antt"), "w", encoding="utf-8").write(
