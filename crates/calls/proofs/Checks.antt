@@ -79,7 +79,8 @@ module _ {A : Type 0} (test : ℕ → A → Bool) where
       (λ h. rw suc-add (rw add-suc at (at (omega arith))))))
 
   -- all entries are counted exactly where each passes
-  pub passing_all : (start : ℕ) (xs : List A) (d : A) → (passing test start xs ≡ length xs) ↔ ((k : ℕ) → k < length xs → test (start + k) (get_or xs k d) ≡ true)
+  pub passing_all : (start : ℕ) (xs : List A) (d : A)
+      → (passing test start xs ≡ length xs) ↔ ((k : ℕ) → k < length xs → test (start + k) (get_or xs k d) ≡ true)
   passing_all start xs d = (
     λ e k h. passing_before start xs d k (omega arith),
     λ all. sym (passing_is start xs d (length xs) (omega arith) all (λ h. absurd (omega arith))),
@@ -133,7 +134,8 @@ module _ {A : Type 0} (test : ℕ → A → Bool) where
 
   -- a check of a list in two parts: a check of the first, then one of the second, with its places counted through the first
   pub refuse_first_append : (start offset : ℕ) (xs ys : List A) (after : Outcome)
-      → refuse_first test start offset (xs ++ ys) after ≡ refuse_first test start offset xs (refuse_first test (start + length xs) (offset + length xs) ys after)
+      → refuse_first test start offset (xs ++ ys) after ≡ refuse_first test start offset xs (refuse_first test (start + length xs) (offset + length xs) ys
+      after)
   refuse_first_append start offset xs ys after = go (dec_lt i l) (dec_lt j (length ys))
     where
       l : ℕ

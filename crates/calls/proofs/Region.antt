@@ -9,7 +9,8 @@ use native.Mathlib.Nat.{zero-add, add-zero, mul-zero, mul-suc, mul_comm, mul-le-
 use native.Mathlib.Decide.{dec_lt}
 use native.Mathlib.Omega.{arith}
 use lib.ListN.{length, get_or, take, drop, length-append, length-take, length-drop, take-append-drop, get_or-append}
-use lib.Seq.{length-take-le, take_at, drop_at, drop-drop, take-add, take-append-le, drop-append-le, get_or-take, get_or-drop, get_or-append-add, ext_get_or, take_all}
+use lib.Seq.{length-take-le, take_at, drop_at, drop-drop, take-add, take-append-le, drop-append-le, get_or-take, get_or-drop, get_or-append-add, ext_get_or}
+use lib.Seq.{take_all}
 use lib.Seq.{drop-length}
 use Rattle.calls.specs.Region.{region, over, vector, joined}
 
@@ -182,7 +183,8 @@ module _ {A : Type 0} where
       ]
 
   -- what holds of each entry of each vector, and of the entry read past the end, holds of each entry of all
-  pub joined_each : (P : A → Type 0) (d : A) → P d → (t : ℕ) (f : ℕ → List A) → ((i j : ℕ) → i < t → P (get_or (f i) j d)) → (j : ℕ) → P (get_or (joined t f) j d)
+  pub joined_each : (P : A → Type 0) (d : A) → P d → (t : ℕ) (f : ℕ → List A) → ((i j : ℕ) → i < t → P (get_or (f i) j d)) → (j : ℕ)
+      → P (get_or (joined t f) j d)
   unfolding joined
   joined_each P d past zero f each j = past
   joined_each P d past (suc t) f each j =

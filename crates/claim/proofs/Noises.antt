@@ -58,5 +58,6 @@ pub noise_on_numbers : (p : Parameters) (seed message seedr : List ℕ) (j : ℕ
     +ℤ dropped_noise_of p (cipher_second p (ciphertext p (public_key p seed) message seedr)) (encrypted_numbers p (public_key p seed) message seedr) j
 unfolding noise multiplier_count_of
 noise_on_numbers p seed message seedr j =
-    ap (λ (z : ℤ). z +ℤ dropped_noise_of p (cipher_second p (ciphertext p (public_key p seed) message seedr)) (encrypted_numbers p (public_key p seed) message seedr) j)
+    ap (λ (z : ℤ). z +ℤ dropped_noise_of p (cipher_second p (ciphertext p (public_key p seed) message seedr))
+    (encrypted_numbers p (public_key p seed) message seedr) j)
     (same_noise p (multipliers_drawn p seedr) (errors p (secret_seed p seed)) (multipliers_drawn_length p seedr) j)

@@ -27,7 +27,8 @@ use Rattle.middle.proofs.Laws.{two_slices, accepted_one, accepted_two}
 use Rattle.numbers.specs.Scheme.{opened, reading}
 use Rattle.numbers.specs.Calls.{is_error, is_multiplier_of, key_shape, sealing_shape, key_answer, sealing_answer, reading_answer}
 use Rattle.numbers.specs.Noise.{numbers_noise}
-use Rattle.numbers.proofs.Laws.{rounded_bit_bench, rounded_bit_centred, key_length, key_below, key_numbers_lem, first_part_length, first_part_below, second_part_length}
+use Rattle.numbers.proofs.Laws.{rounded_bit_bench, rounded_bit_centred, key_length, key_below, key_numbers_lem, first_part_length, first_part_below}
+use Rattle.numbers.proofs.Laws.{second_part_length}
 use Rattle.numbers.proofs.Laws.{second_part_below, sealing_numbers, reading_length, reading_at, opened_below, three_slices, reading_numbers}
 use Rattle.claim.specs.Claim.{on_numbers, key_of, first_of, second_of, Demand3}
 use Rattle.claim.proofs.Noisy.{opened_noisy}

@@ -12,7 +12,8 @@ use Rattle.numbers.specs.Scheme as numbers
 use Rattle.numbers.specs.Calls.{key_answer, sealing_answer, reading_answer}
 use Rattle.numbers.specs.Noise.{numbers_noise}
 use Rattle.scheme.specs.Encryption.{secret_seed, public_key, ciphertext}
-use Rattle.scheme.specs.Exchange.{inner_seed, sealing_seed, exchange_public_key, exchange_secret_key, encapsulated, shared_key, decapsulated_message, decapsulated}
+use Rattle.scheme.specs.Exchange.{inner_seed, sealing_seed, exchange_public_key, exchange_secret_key, encapsulated, shared_key, decapsulated_message}
+use Rattle.scheme.specs.Exchange.{decapsulated}
 use Rattle.scheme.specs.Noise.{noise}
 use Rattle.scheme.specs.Bits.{message_bit, message_read}
 use Rattle.scheme.specs.Answers.{work_length_of, key_draws, encryption_key_answer, encrypt_answer, decrypt_answer}

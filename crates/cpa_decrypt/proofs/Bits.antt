@@ -24,7 +24,8 @@ use Rattle.cpa_decrypt.specs.Decrypted.{first_correlations, difference_bit_of, d
 
 module _ (p : Parameters) where
   -- the bit of a number of c2 that was taken modulo q, by the thresholds
-  pub difference_bit_threshold : Rules p → ByteRules p → (x y : ℕ) → difference_bit_of p x y ≡ threshold_bit_of (half_modulus_of p) ((x % p.q + (p.q - y)) % p.q)
+  pub difference_bit_threshold : Rules p → ByteRules p → (x y : ℕ)
+      → difference_bit_of p x y ≡ threshold_bit_of (half_modulus_of p) ((x % p.q + (p.q - y)) % p.q)
   unfolding difference_bit_of
   difference_bit_threshold rules bytes x y =
       let h : ℕ = half_modulus_of p in

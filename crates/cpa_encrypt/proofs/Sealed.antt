@@ -31,7 +31,8 @@ use Rattle.packing.proofs.Laws.{unpack_length}
 use Rattle.samplers.specs.Seeded.{public_drawn, multipliers_drawn}
 use Rattle.samplers.proofs.Laws.{multipliers_drawn_length}
 use Rattle.scheme.specs.Answers.{work_length_of, all_taken, only_residues, encrypt_draws}
-use Rattle.scheme.specs.Encryption.{residue_vector, key_seed, key_numbers, key_polynomial, multiplier_vector, encrypted_numbers, first_bytes_of, second_bytes, ciphertext}
+use Rattle.scheme.specs.Encryption.{residue_vector, key_seed, key_numbers, key_polynomial, multiplier_vector, encrypted_numbers, first_bytes_of, second_bytes}
+use Rattle.scheme.specs.Encryption.{ciphertext}
 use Rattle.cpa_encrypt.specs.Parts.{Multipliers, KeyResidues, Loaded, packed_first, second_sums, packed_second}
 
 -- the first n entries written, then the others

@@ -45,7 +45,8 @@ pub lent_true : (p : Parameters) (bytes : List ℕ) (position : ℕ) → lent p 
 unfolding lent
 lent_true p bytes position e = go (leb (position * multiplier_bytes_of p + multiplier_bytes_of p) (length bytes)) refl e
   where
-    go : (t : Bool) → leb (position * multiplier_bytes_of p + multiplier_bytes_of p) (length bytes) ≡ t → t && ltb (signs_at_of p + position / 8) (length bytes) ≡ true
+    go : (t : Bool) → leb (position * multiplier_bytes_of p + multiplier_bytes_of p) (length bytes) ≡ t
+        → t && ltb (signs_at_of p + position / 8) (length bytes) ≡ true
         → Lent p bytes position
     go true sizes sign = record { sizes = leb-true _ _ sizes; sign = ltb-true _ _ sign }
     go false sizes sign = let z : ◌≡◌ {A = ℕ} 0 1 = cc in absurd (omega arith)

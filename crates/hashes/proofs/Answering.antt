@@ -19,7 +19,8 @@ module _ (lengths new old : List ℕ) where
   too_long e = rw e (refl, refl)
 
   -- the answer and the output of an accepted call
-  pub within_limit : {out : List ℕ} → within lengths ≡ true → out ≡ new → (outcome Done ≡ sponge_answer lengths) × (out ≡ leaves (sponge_answer lengths) new old)
+  pub within_limit : {out : List ℕ} → within lengths ≡ true → out ≡ new
+      → (outcome Done ≡ sponge_answer lengths) × (out ≡ leaves (sponge_answer lengths) new old)
   unfolding sponge_answer
   within_limit e w = rw e (refl, w)
 

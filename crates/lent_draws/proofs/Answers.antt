@@ -88,7 +88,8 @@ module _ (set wanted : ℕ) (bytes : List ℕ) (s : Shaped set wanted) (p : Para
 
     module _ (within : first + wanted ≤ multiplier_count_of p) where
       -- only the bytes are left to check
-      after_positions : multipliers_answer set bytes first wanted ≡ refuse (ltb (lent_results_of p bytes first wanted) wanted) 4 (lent_results_of p bytes first wanted)
+      after_positions : multipliers_answer set bytes first wanted ≡ refuse (ltb (lent_results_of p bytes first wanted) wanted) 4
+          (lent_results_of p bytes first wanted)
           accepted
       unfolding past_last multipliers_answer
       after_positions = shape_rest set wanted s _ ∙ rw (← known, lt-ltb 0 wanted some, le-ltb (multiplier_count_of p) (first + wanted) within)

@@ -49,7 +49,8 @@ multipliers_answer set bytes first wanted =
 
 -- the multipliers in turn
 unfoldable pub multipliers_left : ℕ → List ℕ → ℕ → List ℤ → List ℤ
-multipliers_left set bytes first out = leaves (multipliers_answer set bytes first (length out)) (in_turn (multiplier_at_of (set_of set) bytes) first (length out)) out
+multipliers_left set bytes first out =
+    leaves (multipliers_answer set bytes first (length out)) (in_turn (multiplier_at_of (set_of set) bytes) first (length out)) out
 
 residues_answer_example : map (λ set. residues_answer set [] 0) (0 ∷ 1 ∷ 12 ∷ 13 ∷ []) ≡ refused 1 0 ∷ accepted ∷ accepted ∷ refused 1 0 ∷ []
 unfolding refuse_shape residues_answer drawn_answer residues_drawn accept
@@ -71,12 +72,14 @@ residues_answer_example₄ = refl
 
 -- 2 + 4 · 65536 is 21505 modulo 240641
 residues_left_example : residues_left 1 (2 ∷ 0 ∷ 4 ∷ []) (7 ∷ []) ≡ 21505 ∷ []
-unfolding table set_of refuse_shape residues_left residues_answer drawn_answer residues_drawn accept continued find later put verdict candidates little_endian numbers
+unfolding table set_of refuse_shape residues_left residues_answer drawn_answer residues_drawn accept continued find later put verdict candidates little_endian
+    numbers
 residues_left_example = refl
 
 -- a refused call writes nothing
 residues_left_example₂ : residues_left 1 (2 ∷ 0 ∷ 4 ∷ []) (7 ∷ 8 ∷ []) ≡ 7 ∷ 8 ∷ []
-unfolding table set_of refuse_shape residues_left residues_answer drawn_answer residues_drawn accept continued find later put verdict candidates little_endian numbers
+unfolding table set_of refuse_shape residues_left residues_answer drawn_answer residues_drawn accept continued find later put verdict candidates little_endian
+    numbers
 residues_left_example₂ = refl
 
 errors_answer_example : errors_answer 1 (15 ∷ 240 ∷ []) 3 ≡ refused 4 2

@@ -45,7 +45,8 @@ module _ {q : ℕ} (D1 D2 w : ℕ) (x : ℕ → ℕ) (k1 k2 : ℕ) (whole : Mod 
 
 -- the same with D1 · D2 places read in columns of D1: rows first, then the twist and the columns, as the inverse transform does
 pub rows_columns : {q : ℕ} (D1 D2 w : ℕ) (y : ℕ → ℕ) (k1 k2 : ℕ) → Mod q (w ^ (D1 * D2)) 1
-    → Mod q (transform_at (D1 * D2) w y (k2 + D2 * k1)) (transform_at D1 (w ^ D2) (λ n1. w ^ (n1 * k2) * transform_at D2 (w ^ D1) (λ n2. y (D1 * n2 + n1)) k2) k1)
+    → Mod q (transform_at (D1 * D2) w y (k2 + D2 * k1)) (transform_at D1 (w ^ D2) (λ n1. w ^ (n1 * k2) * transform_at D2 (w ^ D1) (λ n2. y (D1 * n2 + n1)) k2)
+    k1)
 rows_columns D1 D2 w y k1 k2 whole = rw (mul_comm D1 D2) (columns_rows D2 D1 w y k2 k1 (rw mul_comm whole))
 
 -- zeros from place m · D2 on: each column has m places
@@ -55,5 +56,6 @@ column_pad m D1 D2 w x k1 n2 fits end = transform_pad m D1 (w ^ D2) _ k1 fits (�
 
 -- columns, twist, rows where place m · D2 and those after it are zero
 pub columns_rows_pad : {q : ℕ} (m D1 D2 w : ℕ) (x : ℕ → ℕ) (k1 k2 : ℕ) → Mod q (w ^ (D1 * D2)) 1 → m ≤ D1 → ((j : ℕ) → m * D2 ≤ j → x j ≡ 0)
-    → Mod q (transform_at (D1 * D2) w x (k1 + D1 * k2)) (transform_at D2 (w ^ D1) (λ n2. w ^ (n2 * k1) * transform_at m (w ^ D2) (λ n1. x (D2 * n1 + n2)) k1) k2)
+    → Mod q (transform_at (D1 * D2) w x (k1 + D1 * k2)) (transform_at D2 (w ^ D1) (λ n2. w ^ (n2 * k1) * transform_at m (w ^ D2) (λ n1. x (D2 * n1 + n2)) k1)
+    k2)
 columns_rows_pad m D1 D2 w x k1 k2 whole fits end = simp (column_pad m D1 D2 w x k1) at (columns_rows D1 D2 w x k1 k2 whole)

@@ -84,12 +84,14 @@ summed_correlations q m t x y = tabulate m (λ l. sum t (λ j. correlation (leng
 
 -- bench figure 6, and back
 sent_example : sent (set_of 0) 3 (1 ∷ 2 ∷ 3 ∷ 4 ∷ []) ≡ 10 ∷ 7 ∷ 15 ∷ 6 ∷ []
-unfolding tables.set_of tables.table derived.transform_size_of derived.transform_root sent transforms.send transforms.perm transforms.transform transforms.transform_at
+unfolding tables.set_of tables.table derived.transform_size_of derived.transform_root sent transforms.send transforms.perm transforms.transform
+    transforms.transform_at
     sums.sum vectors.tabulate
 sent_example = refl
 
 recovered_example : recovered (set_of 0) 3 3 (10 ∷ 7 ∷ 15 ∷ 6 ∷ []) ≡ 1 ∷ 2 ∷ 3 ∷ []
-unfolding tables.set_of tables.table derived.transform_size_of derived.transform_root root_inverse_of roots.inverse_root size_inverse_of roots.inverse_size recovered
+unfolding tables.set_of tables.table derived.transform_size_of derived.transform_root root_inverse_of roots.inverse_root size_inverse_of roots.inverse_size
+    recovered
     transforms.recover transforms.inv_perm transforms.scaled_transform transforms.transform_at sums.sum vectors.tabulate
 recovered_example = refl
 

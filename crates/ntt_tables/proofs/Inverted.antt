@@ -102,7 +102,8 @@ inverted {old} {new} s h =
           let value : (k : ℕ) → k < D → at old k ≡ w ^ k % q = λ k l. ap (λ (xs : List ℕ). at xs k) t ∙ power_table_at q w D k l in
           let place : (k : ℕ) → k < D → at new k ≡ at (power_table q v D) k = λ k l.
           elim (dec_le 1 k) [
-            | yes later ↦ exchanged_all s h k later l ∙ (value (D - k) (omega arith) ∙ ((inverse_power r k (omega arith)).same ∙ sym (power_table_at q v D k l)))
+            | yes later ↦ exchanged_all s h k later l ∙
+                (value (D - k) (omega arith) ∙ ((inverse_power r k (omega arith)).same ∙ sym (power_table_at q v D k l)))
             | no start ↦ let none : k ≡ 0 = omega arith in rw none
                 (s.first ∙ (value 0 (omega arith) ∙ (ap (λ (y : ℕ). y % q) (pow-zero w ∙ sym (pow-zero v)) ∙ sym (power_table_at q v D 0 (omega arith)))))
           ] in

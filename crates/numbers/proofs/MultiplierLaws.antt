@@ -42,7 +42,8 @@ pub multiplier_within : (p : Parameters) (position : ℕ) (z : ℤ) → leb (nat
 multiplier_within p position z e = rw (le-leb 1 (nat_abs z) (omega (arith, leb-false (nat_abs z) 0 e)))
 
 -- an accepted check of multipliers
-pub accepted_multipliers : (p : Parameters) → Rules p → (offset : ℕ) (rs : List ℤ) (after : Outcome) → refuse_first (is_multiplier_of p) 0 offset rs after ≡ accepted
+pub accepted_multipliers : (p : Parameters) → Rules p → (offset : ℕ) (rs : List ℤ) (after : Outcome)
+    → refuse_first (is_multiplier_of p) 0 offset rs after ≡ accepted
     → ((k : ℕ) → k < length rs → nat_abs (get_or rs k (pos 0)) < 2 ^ 24) × (after ≡ accepted)
 accepted_multipliers p kept offset rs after e =
     let both = refuse_first_accepted (is_multiplier_of p) 0 offset rs after e in (

@@ -71,6 +71,7 @@ figures =
 
 bench_figures : computed ≡ figures
 unfolding bench a s e r message b c1 c2 read_with computed figures none table set_of half_modulus_of
-    region joined tabulate sum product middle_product_of transform_at transform residue floor_bit_of key_part key sum_of_products first_part_of sum_of_middles second_part opened
+    region joined tabulate sum product middle_product_of transform_at transform residue floor_bit_of key_part key sum_of_products first_part_of sum_of_middles
+    second_part opened
     rounded_bit_of reading
 bench_figures = refl

@@ -14,7 +14,8 @@ use Rattle.packing.specs.Message.{message_bits_of, message_bytes}
 use Rattle.packing.proofs.Digits.{value_drop, value_at, unpack_pack, pack_unpack, pack_length, pack_below, unpack_length, unpack_below, window_digit}
 
 -- bit i is bit i mod 8 of byte i div 8
-pub message_bits_at : (count i : ℕ) (message : List ℕ) → Digit 8 message → i < count → at (message_bits_of count message) i ≡ at message (i / 8) / 2 ^ (i % 8) % 2
+pub message_bits_at : (count i : ℕ) (message : List ℕ) → Digit 8 message → i < count
+    → at (message_bits_of count message) i ≡ at message (i / 8) / 2 ^ (i % 8) % 2
 unfolding message_bits_of unpack digits
 message_bits_at count i message digit h =
     let place : 1 * i ≡ 8 * (i / 8) + i % 8 = omega arith in
@@ -34,7 +35,8 @@ unfolding message_bits_of message_bytes
 message_bytes_message_bits message digit = pack_unpack 1 (8 * length message) message digit (omega arith)
 
 -- bits give themselves back from their bytes
-pub message_bits_message_bytes : (count : ℕ) (bits : List ℕ) → Digit 1 bits → length bits ≤ 8 * count → message_bits_of (length bits) (message_bytes count bits) ≡ bits
+pub message_bits_message_bytes : (count : ℕ) (bits : List ℕ) → Digit 1 bits → length bits ≤ 8 * count
+    → message_bits_of (length bits) (message_bytes count bits) ≡ bits
 unfolding message_bits_of message_bytes
 message_bits_message_bytes count bits digit fits = unpack_pack 1 count bits digit (omega arith)
 

@@ -39,6 +39,7 @@ plaintext = 0x00 ∷ 0x11 ∷ 0x22 ∷ 0x33 ∷ 0x44 ∷ 0x55 ∷ 0x66 ∷ 0x77 
 -- the ciphertext
 pub example_encrypted : aes256 example_key plaintext ≡
     0x8e ∷ 0xa2 ∷ 0xb7 ∷ 0xca ∷ 0x51 ∷ 0x67 ∷ 0x45 ∷ 0xbf ∷ 0xea ∷ 0xfc ∷ 0x49 ∷ 0x90 ∷ 0x4b ∷ 0x49 ∷ 0x60 ∷ 0x89 ∷ []
-unfolding sum x_times_of times ◌•◌ squares inverse affine sbox sub_bytes shift_rows mix_column mix_columns add_round_key round_key_of rounds cipher encrypted add_words rot_word
+unfolding sum x_times_of times ◌•◌ squares inverse affine sbox sub_bytes shift_rows mix_column mix_columns add_round_key round_key_of rounds cipher encrypted
+    add_words rot_word
     sub_word_of x_power rcon temp next_word_of words key_expansion aes256
 example_encrypted = refl

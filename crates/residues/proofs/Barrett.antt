@@ -77,7 +77,8 @@ module _ (x : ℕ) {q m : ℕ} (inverse : Reciprocal q m) (product_small : x * q
 
 -- of an x below 3 · q
 pub small_quotient_lem : {q m x : ℕ} → Reciprocal q m → x < 3 * q → q < 2 ^ 23 → x * (m + 1) / 281474976710656 ≡ x / q
-small_quotient_lem {q} {x = x} inverse near small = exact_quotient x inverse (omega (arith, mul-le-mul_right q (le_of_lt near), mul-le-mul_left q (le_of_lt small)))
+small_quotient_lem {q} {x =
+    x} inverse near small = exact_quotient x inverse (omega (arith, mul-le-mul_right q (le_of_lt near), mul-le-mul_left q (le_of_lt small)))
 
 -- and of an x below 2^24
 pub short_quotient : {q m x : ℕ} → Reciprocal q m → x < 2 ^ 24 → q < 2 ^ 23 → x * (m + 1) / 281474976710656 ≡ x / q

@@ -126,7 +126,8 @@ key_passed is_own set seed pk sk work e =
 
 -- those of encrypt and of encapsulate
 pub encrypt_passed : (is_own : ℕ → Bool) (set pk message other ct work : ℕ) → encrypt_checks is_own set pk message other ct work ≡ accepted
-    → Own is_own set × (pk ≡ public_key_bytes_of (set_of set)) × (message ≡ 32) × (other ≡ 32) × (ct ≡ ciphertext_bytes_of set) × (work ≡ work_length_of (set_of set))
+    → Own is_own set × (pk ≡ public_key_bytes_of (set_of set)) × (message ≡ 32) × (other ≡ 32) × (ct ≡ ciphertext_bytes_of set) ×
+    (work ≡ work_length_of (set_of set))
 unfolding encrypt_checks
 encrypt_passed is_own set pk message other ct work e =
     let t = checks_passed is_own set _ _ _ e in

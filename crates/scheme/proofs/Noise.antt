@@ -37,7 +37,8 @@ correlation_ℤ_residue : (q n : ℕ) (x y : List ℤ) (j : ℕ) → 0 < q
 unfolding correlation_ℤ
 correlation_ℤ_residue q n x y j h =
     mod_trans (mod_eq (residue_sum_ℤ q n _ h))
-    (mod_trans (mod_remainder q _) (mod_sum n _ _ (λ l k. mod_trans (mod_eq (residue-*ℤ q (get_or x l (pos 0)) (get_or y (j + l) (pos 0)) h)) (mod_remainder q _))))
+    (mod_trans (mod_remainder q _) (mod_sum n _ _ (λ l k. mod_trans (mod_eq (residue-*ℤ q (get_or x l (pos 0)) (get_or y (j + l) (pos 0)) h))
+    (mod_remainder q _))))
 
 -- a correlation of vectors of whole numbers, as residues
 correlation_residues : (p : Parameters) (r e : List ℤ) (i j : ℕ) → 0 < p.q → j < p.d
@@ -112,7 +113,8 @@ cancelled q o x c b f w m noise opened dropped sealed parts =
 module _ {p : Parameters} (c : Conditions p) (seed message seedr : List ℕ) (j : ℕ) (inside : j < p.d) where
   -- c2' is the correlation of c1' with s, plus those of r_i with e_i, plus h times the message bit
   sealed_sums : Mod p.q (at (encrypted_numbers p (public_key p seed) message seedr) j)
-      (correlation (p.n + p.k) (at (first_numbers p (multiplier_vector p seedr) (public_polynomial p (public_seed p seed)))) (at (secret p (secret_seed p seed))) j
+      (correlation (p.n + p.k) (at (first_numbers p (multiplier_vector p seedr) (public_polynomial p (public_seed p seed))))
+      (at (secret p (secret_seed p seed))) j
       + sum p.t (λ i. correlation (p.k + 1) (at (multiplier_vector p seedr i)) (at (residue_vector p (p.d + p.k) (errors p (secret_seed p seed)) i)) j)
       + half_modulus_of p * message_bit p message j)
   sealed_sums =
@@ -132,7 +134,8 @@ module _ {p : Parameters} (c : Conditions p) (seed message seedr : List ℕ) (j 
   -- the residue of the noise, by its two parts
   noise_parts : Mod p.q (residue p.q (noise p seed message seedr j))
       (sum p.t (λ i. correlation (p.k + 1) (at (multiplier_vector p seedr i)) (at (residue_vector p (p.d + p.k) (errors p (secret_seed p seed)) i)) j)
-      + residue p.q (dropped_noise_of p (cipher_second p (ciphertext p (public_key p seed) message seedr)) (encrypted_numbers p (public_key p seed) message seedr)
+      + residue p.q (dropped_noise_of p (cipher_second p (ciphertext p (public_key p seed) message seedr))
+      (encrypted_numbers p (public_key p seed) message seedr)
       j))
   unfolding noise multiplier_vector
   noise_parts =

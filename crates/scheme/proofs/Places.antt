@@ -89,7 +89,8 @@ encrypted_numbers_length p pk message seedr = tabulate_length p.d _
 -- number j of c2'
 pub encrypted_numbers_at : (p : Parameters) (pk message seedr : List ℕ) (j : ℕ) → j < p.d
     → at (encrypted_numbers p pk message seedr) j
-    ≡ (sum p.t (λ i. correlation (p.k + 1) (at (multiplier_vector p seedr i)) (at (key_polynomial p pk i)) j) + half_modulus_of p * message_bit p message j) % p.q
+    ≡ (sum p.t (λ i. correlation (p.k + 1) (at (multiplier_vector p seedr i)) (at (key_polynomial p pk i)) j) + half_modulus_of p * message_bit p message j) %
+    p.q
 unfolding encrypted_numbers second_numbers_of message_bit
 encrypted_numbers_at p pk message seedr j h = tabulate_at p.d _ j h
 

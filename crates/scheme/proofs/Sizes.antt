@@ -81,7 +81,8 @@ module _ {p : Parameters} (c : Conditions p) where
     dropped_part =
         let pk : List ℕ = public_key p seed in
         rw (cipher_second_unpacked c pk message seedr)
-        (packing_most (encrypted_numbers p pk message seedr) (encrypted_numbers_length p pk message seedr) (encrypted_numbers_below c pk message seedr) j inside)
+        (packing_most (encrypted_numbers p pk message seedr) (encrypted_numbers_length p pk message seedr) (encrypted_numbers_below c pk message seedr) j
+        inside)
 
     -- the noise
     pub noise_most : nat_abs (noise p seed message seedr j) ≤ ceiling p

@@ -128,7 +128,8 @@ ciphertext_left set pk message seed ct work =
     leaves (encrypt_answer set pk message seed (length ct) (length work)) (ciphertext (set_of set) pk message seed) ct
 
 unfoldable pub encrypt_work : ℕ → List ℕ → List ℕ → List ℕ → List ℕ → List ℕ → List ℕ
-encrypt_work set pk message seed ct work = work_left (encrypt_checks is_encryption set (length pk) (length message) (length seed) (length ct) (length work)) work
+encrypt_work set pk message seed ct work =
+    work_left (encrypt_checks is_encryption set (length pk) (length message) (length seed) (length ct) (length work)) work
 
 -- decrypt: its answer, and what it leaves in the message and the work slice
 unfoldable pub decrypt_answer : ℕ → List ℕ → List ℕ → ℕ → ℕ → Outcome
@@ -146,10 +147,12 @@ unfoldable pub exchange_key_answer : ℕ → List ℕ → ℕ → ℕ → ℕ �
 exchange_key_answer set seed pk sk work = and_then (key_checks is_exchange set (length seed) pk sk work) (key_draws (set_of set) (inner_seed (set_of set) seed))
 
 unfoldable pub exchange_public_left : ℕ → List ℕ → List ℕ → List ℕ → List ℕ → List ℕ
-exchange_public_left set seed pk sk work = leaves (exchange_key_answer set seed (length pk) (length sk) (length work)) (exchange_public_key (set_of set) seed) pk
+exchange_public_left set seed pk sk work =
+    leaves (exchange_key_answer set seed (length pk) (length sk) (length work)) (exchange_public_key (set_of set) seed) pk
 
 unfoldable pub exchange_secret_left : ℕ → List ℕ → List ℕ → List ℕ → List ℕ → List ℕ
-exchange_secret_left set seed pk sk work = leaves (exchange_key_answer set seed (length pk) (length sk) (length work)) (exchange_secret_key (set_of set) seed) sk
+exchange_secret_left set seed pk sk work =
+    leaves (exchange_key_answer set seed (length pk) (length sk) (length work)) (exchange_secret_key (set_of set) seed) sk
 
 unfoldable pub exchange_key_work : ℕ → List ℕ → List ℕ → List ℕ → List ℕ → List ℕ
 exchange_key_work set seed pk sk work = work_left (key_checks is_exchange set (length seed) (length pk) (length sk) (length work)) work

@@ -16,7 +16,8 @@ use Rattle.calls.specs.Checks.{all_of}
 use Rattle.calls.proofs.Checks.{Each}
 use Rattle.sets.specs.declared.Parameters.{Parameters}
 use Rattle.sets.specs.Table.{table, set_of, IsSet, Listed}
-use Rattle.sets.specs.Derived.{half_modulus_of, multiplier_count_of, multiplier_bytes_of, multiplier_draw_bytes_of, error_draw_bytes_of, packed_bytes_of, public_key_bytes_of}
+use Rattle.sets.specs.Derived.{half_modulus_of, multiplier_count_of, multiplier_bytes_of, multiplier_draw_bytes_of, error_draw_bytes_of, packed_bytes_of}
+use Rattle.sets.specs.Derived.{public_key_bytes_of}
 use Rattle.sets.specs.Derived.{cpa_ciphertext_bytes_of}
 use Rattle.sets.specs.Rules.{Rules, ByteRules}
 use Rattle.sets.proofs.Tested.{passed, at_each}

@@ -3,7 +3,8 @@
 use Rattle.std.specs.Prelude.{◌≡◌, ◌+◌, ◌-◌, ◌*◌, ◌/◌, ◌%◌, ◌^◌, ◌≤◌, ◌<◌}
 use Rattle.maths.specs.Prime.{Prime}
 use Rattle.sets.specs.declared.Parameters.{Parameters}
-use Rattle.sets.specs.Derived.{half_modulus_of, multiplier_count_of, multiplier_bytes_of, multiplier_draw_bytes_of, error_draw_bytes_of, public_key_bytes_of, cpa_ciphertext_bytes_of}
+use Rattle.sets.specs.Derived.{half_modulus_of, multiplier_count_of, multiplier_bytes_of, multiplier_draw_bytes_of, error_draw_bytes_of, public_key_bytes_of}
+use Rattle.sets.specs.Derived.{cpa_ciphertext_bytes_of}
 
 -- what holds for sets 0 to 12
 pub record Rules (p : Parameters) : Type 0 where

@@ -37,10 +37,14 @@ sheet_of_example :
     48 ∷ 32 ∷ 45 ∷ 50 ∷ 32 ∷ 49 ∷ 32 ∷ 49 ∷ 10 ∷
     49 ∷ 32 ∷ 45 ∷ 49 ∷ 32 ∷ 48 ∷ 32 ∷ 48 ∷ 10 ∷
     99 ∷ 101 ∷ 105 ∷ 108 ∷ 105 ∷ 110 ∷ 103 ∷ 32 ∷ 52 ∷ 32 ∷ 104 ∷ 97 ∷ 108 ∷ 102 ∷ 32 ∷ 56 ∷ 10 ∷ []
-unfolding sheet_of sheet_answer input_answer set_byte_of has_sheet_of input_bytes_of rows_answer rows_text row_noise row_sent row_read ceiling most_products_of most_dropped_of
-    half_modulus_of multiplier_count_of none table set_of bench.bench_answer bench.bench_fits bench.signed handed_in in_turn refuse_first passing multiplier_bound_of
-    multiplier_bits_of region numbers_noise product_ℤ sum_ℤ joined tabulate sum product middle_product_of residue floor_bit_of key_part key sum_of_products first_part_of
-    sum_of_middles second_part opened rounded_bit_of reading sheet_text header rows row last_line ceiling_word half_word shown ordered inserted_by insert_by before
+unfolding sheet_of sheet_answer input_answer set_byte_of has_sheet_of input_bytes_of rows_answer rows_text row_noise row_sent row_read ceiling most_products_of
+    most_dropped_of
+    half_modulus_of multiplier_count_of none table set_of bench.bench_answer bench.bench_fits bench.signed handed_in in_turn refuse_first passing
+    multiplier_bound_of
+    multiplier_bits_of region numbers_noise product_ℤ sum_ℤ joined tabulate sum product middle_product_of residue floor_bit_of key_part key sum_of_products
+    first_part_of
+    sum_of_middles second_part opened rounded_bit_of reading sheet_text header rows row last_line ceiling_word half_word shown ordered inserted_by insert_by
+    before
     by_key higher lower size_at negative_at negative decimal.signed decimal.decimal decimal.digits
 sheet_of_example = refl
 

@@ -46,7 +46,8 @@ noise_entries a b c x y (suc zero) h = sym (+ℤ_idl _ ∙ ap₂ ◌+ℤ◌ (ap 
 noise_entries a b c x y (suc (suc j)) h = absurd (omega arith)
 
 noise_multipliers : (a b c : ℤ) (r : List ℤ) (j : ℕ) → length r ≡ 2 → j < 2
-    → get_or r 0 (pos 0) *ℤ get_or (a ∷ b ∷ c ∷ []) (j + 1) (pos 0) +ℤ get_or r 1 (pos 0) *ℤ get_or (a ∷ b ∷ c ∷ []) j (pos 0) ≡ numbers_noise bench (a ∷ b ∷ c ∷ []) r j
+    → get_or r 0 (pos 0) *ℤ get_or (a ∷ b ∷ c ∷ []) (j + 1) (pos 0) +ℤ get_or r 1 (pos 0) *ℤ get_or (a ∷ b ∷ c ∷ []) j (pos 0) ≡ numbers_noise bench
+    (a ∷ b ∷ c ∷ []) r j
 noise_multipliers a b c [] j e h = absurd (omega arith)
 noise_multipliers a b c (x ∷ []) j e h = absurd (omega arith)
 noise_multipliers a b c (x ∷ y ∷ []) j e h = noise_entries a b c x y j h
@@ -86,21 +87,25 @@ module _ (x y u v : ℤ) (fits-x : SFits w32 x) (fits-y : SFits w32 y) (fits-u :
   sum_small : nat_abs (x *ℤ y +ℤ u *ℤ v) ≤ 4
   sum_small = omega (arith, nat_abs-+ℤ (x *ℤ y) (u *ℤ v), product_small x y small-x small-y, product_small u v small-u small-v)
 
-  pub sum_fits : SFits w32 (to_z w32 (of_z w32 (to_z w32 (of_z w32 x) *ℤ to_z w32 (of_z w32 y))) +ℤ to_z w32 (of_z w32 (to_z w32 (of_z w32 u) *ℤ to_z w32 (of_z w32 v))))
+  pub sum_fits : SFits w32 (to_z w32 (of_z w32 (to_z w32 (of_z w32 x) *ℤ to_z w32 (of_z w32 y))) +ℤ to_z w32
+      (of_z w32 (to_z w32 (of_z w32 u) *ℤ to_z w32 (of_z w32 v))))
   unfolding stored
   sum_fits = rw stored_is (small_fits sum_small)
 
   -- the sum as a word gives it back
-  total : to_z w32 (of_z w32 (to_z w32 (of_z w32 (to_z w32 (of_z w32 x) *ℤ to_z w32 (of_z w32 y))) +ℤ to_z w32 (of_z w32 (to_z w32 (of_z w32 u) *ℤ to_z w32 (of_z w32 v)))))
+  total : to_z w32 (of_z w32 (to_z w32 (of_z w32 (to_z w32 (of_z w32 x) *ℤ to_z w32 (of_z w32 y))) +ℤ to_z w32
+      (of_z w32 (to_z w32 (of_z w32 u) *ℤ to_z w32 (of_z w32 v)))))
       ≡ x *ℤ y +ℤ u *ℤ v
   unfolding stored
   total = to_z-of_z w32 _ sum_fits ∙ stored_is
 
   pub wide_fits : SFits w64
-      (to_z w32 (of_z w32 (to_z w32 (of_z w32 (to_z w32 (of_z w32 x) *ℤ to_z w32 (of_z w32 y))) +ℤ to_z w32 (of_z w32 (to_z w32 (of_z w32 u) *ℤ to_z w32 (of_z w32 v))))))
+      (to_z w32 (of_z w32 (to_z w32 (of_z w32 (to_z w32 (of_z w32 x) *ℤ to_z w32 (of_z w32 y))) +ℤ to_z w32
+      (of_z w32 (to_z w32 (of_z w32 u) *ℤ to_z w32 (of_z w32 v))))))
   wide_fits = rw total (small_fits_double sum_small)
 
   pub wide_is : to_z w64
       (of_z w64 (to_z w32 (of_z w32
-      (to_z w32 (of_z w32 (to_z w32 (of_z w32 x) *ℤ to_z w32 (of_z w32 y))) +ℤ to_z w32 (of_z w32 (to_z w32 (of_z w32 u) *ℤ to_z w32 (of_z w32 v))))))) ≡ x *ℤ y +ℤ u *ℤ v
+      (to_z w32 (of_z w32 (to_z w32 (of_z w32 x) *ℤ to_z w32 (of_z w32 y))) +ℤ to_z w32 (of_z w32 (to_z w32 (of_z w32 u) *ℤ to_z w32 (of_z w32 v))))))) ≡ x *ℤ
+      y +ℤ u *ℤ v
   wide_is = to_z-of_z w64 _ wide_fits ∙ total

@@ -84,7 +84,8 @@ module _ (input : List ℕ) (size : length input ≡ 14) (answer : bench_answer 
   error_at_lem i h = rw (signed_entry input 7 3 i h) (fits_error (7 + i) (at input (7 + i)) (omega arith) (omega arith) ∙ in_range (7 + i) (omega arith))
 
   -- multipliers
-  multiplier_at_lem : (i : ℕ) → i < 2 → leb 1 (nat_abs (get_or (bench_multipliers input) i (pos 0))) && leb (nat_abs (get_or (bench_multipliers input) i (pos 0))) 2 ≡ true
+  multiplier_at_lem : (i : ℕ) → i < 2
+      → leb 1 (nat_abs (get_or (bench_multipliers input) i (pos 0))) && leb (nat_abs (get_or (bench_multipliers input) i (pos 0))) 2 ≡ true
   multiplier_at_lem i h =
       rw (signed_entry input 10 2 i h) (fits_multiplier (10 + i) (at input (10 + i)) (omega arith) (omega arith) ∙ in_range (10 + i) (omega arith))
 

@@ -80,7 +80,8 @@ unfolding bench_noise signed region none table set_of numbers_noise product_ℤ 
 bench_noise_example = refl
 
 bench_read_example : bench_read example ≡ 1 ∷ 0 ∷ []
-unfolding bench_read signed none table set_of half_modulus_of region joined tabulate sum product middle_product_of residue floor_bit_of key_part key sum_of_products first_part_of
+unfolding bench_read signed none table set_of half_modulus_of region joined tabulate sum product middle_product_of residue floor_bit_of key_part key
+    sum_of_products first_part_of
     sum_of_middles second_part opened rounded_bit_of reading
 bench_read_example = refl
 

@@ -85,7 +85,8 @@ module _ (p : Parameters) (kept : Rules p) (bytes : ByteRules p) (r e : List ℤ
   -- one number
   centred_entry : (zs : List ℤ) (k : ℕ) → k < length zs → nat_abs (get_or zs k (pos 0)) ≤ half_modulus_of p
       → centre (half_modulus_of p) (at (map (residue p.q) zs) k) ≡ get_or zs k (pos 0)
-  centred_entry zs k h most = ap (centre (half_modulus_of p)) (map_entry p.q zs k h) ∙ centre_residue (half_modulus_of p) p.q (get_or zs k (pos 0)) kept.odd most
+  centred_entry zs k h most =
+      ap (centre (half_modulus_of p)) (map_entry p.q zs k h) ∙ centre_residue (half_modulus_of p) p.q (get_or zs k (pos 0)) kept.odd most
 
   -- one product
   term_drawn : (i j l : ℕ) → i < p.t → j < p.d → l < p.k + 1

@@ -78,20 +78,24 @@ unfolding row_read handed_in bench_read
 bench_reading input = sym (tabulate_self bench.d _ (reading_length 0 bench _ _ (bench_secret input)))
 
 -- and of an encryption set
-seeded_noises : (set : ℕ) (input : List ℕ) → 1 ≤ set → row_noise set input ≡ seeded_noise (set_of set) (key_seed_of input) (message_of input) (sealing_seed_of input)
+seeded_noises : (set : ℕ) (input : List ℕ) → 1 ≤ set
+    → row_noise set input ≡ seeded_noise (set_of set) (key_seed_of input) (message_of input) (sealing_seed_of input)
 unfolding row_noise handed_in seeded_noise
 seeded_noises set input some = rw (ne_eqb set 0 (λ z. omega arith))
 
 seeded_sent_lem : (set : ℕ) (input : List ℕ) → 1 ≤ set → row_sent set input ≡ seeded_sent (set_of set) (message_of input)
 unfolding row_sent handed_in seeded_sent message_bit
-seeded_sent_lem set input some = rw (ne_eqb set 0 (λ z. omega arith)) (sym (tabulate_self (set_of set).d _ (message_bits_length (set_of set).d (message_of input))))
+seeded_sent_lem set input some =
+    rw (ne_eqb set 0 (λ z. omega arith)) (sym (tabulate_self (set_of set).d _ (message_bits_length (set_of set).d (message_of input))))
 
-seeded_reading : (set : ℕ) (input : List ℕ) → 1 ≤ set → row_read set input ≡ seeded_read (set_of set) (key_seed_of input) (message_of input) (sealing_seed_of input)
+seeded_reading : (set : ℕ) (input : List ℕ) → 1 ≤ set
+    → row_read set input ≡ seeded_read (set_of set) (key_seed_of input) (message_of input) (sealing_seed_of input)
 unfolding row_read handed_in seeded_read message_bit
 seeded_reading set input some = rw (ne_eqb set 0 (λ z. omega arith)) (sym (tabulate_self (set_of set).d _ (message_bits_length (set_of set).d _)))
 
 -- the rows of set 0
-pub bench_filled : (set : ℕ) (input : List ℕ) (o : Outcome) (noise₀ noise : List ℤ) (sent₀ sent read₀ read : List ℕ) → set < 1 → length input ≡ input_bytes_of set
+pub bench_filled : (set : ℕ) (input : List ℕ) (o : Outcome) (noise₀ noise : List ℤ) (sent₀ sent read₀ read : List ℕ) → set < 1
+    → length input ≡ input_bytes_of set
     → o ≡ bench_answer input
     → noise ≡ leaves (bench_answer input) (bench_noise input) noise₀ → sent ≡ leaves (bench_answer input) (bench_message input) sent₀
     → read ≡ leaves (bench_answer input) (bench_read input) read₀

@@ -66,9 +66,11 @@ filled_rest {a} {block} {at} a' block' r n w e =
     rw (k, e, w) (fed_full a block at (replicate (136 - at) 0) r (omega (arith, r.below)))
 
 -- the zeros after what was fed from the start of a block fill it up
-pub fed_up : {a : List (List ℕ)} {block : List ℕ} {at : ℕ} {z : List ℕ} {a' : List (List ℕ)} {block' : List ℕ} {at' : ℕ} {a'' : List (List ℕ)} {block'' : List ℕ}
+pub fed_up : {a : List (List ℕ)} {block : List ℕ} {at : ℕ} {z : List ℕ} {a' : List (List ℕ)} {block' : List ℕ} {at' : ℕ} {a'' : List (List ℕ)}
+    {block'' : List ℕ}
     {at'' : ℕ}
-    → at ≡ 0 → Fed a block at z a' block' at' → Fed a' block' at' (replicate ((136 - at') % 136) 0) a'' block'' at'' → Fed a block at (fill_up_of z 136) a'' block'' at''
+    → at ≡ 0 → Fed a block at z a' block' at' → Fed a' block' at' (replicate ((136 - at') % 136) 0) a'' block'' at'' → Fed a block at (fill_up_of z 136) a''
+    block'' at''
 unfolding fill_up_of
 fed_up {at = at} {z = z} {at' = at'} e f g =
     let p : at' ≡ length z % 136 = f.place ∙ ap (λ (k : ℕ). k % 136) (omega arith) in

@@ -6,4 +6,5 @@ use Rattle.c_exchange.proofs.titanium_encapsulate.Goals as goal
 
 pub returns : goal.returns
 returns c =
-    let made = c.encapsulate.ensures in record { answer = c.code.ensures ∙ ap coded made.answer; given = made.given; agreed = made.agreed; cleared = made.cleared }
+    let made = c.encapsulate.ensures in
+    record { answer = c.code.ensures ∙ ap coded made.answer; given = made.given; agreed = made.agreed; cleared = made.cleared }

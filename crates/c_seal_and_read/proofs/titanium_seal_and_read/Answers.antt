@@ -12,4 +12,5 @@ returns c =
     let public = rw made.answer at made.given in
     let secret = rw made.answer at made.kept in
     let sealed = rw made.answer at made.sent in
-    let read = rw made.answer at made.opened in record { answer = c.code.ensures ∙ ap coded made.answer; given = public; kept = secret; sent = sealed; opened = read; cleared = made.cleared }
+    let read = rw made.answer at made.opened in
+    record { answer = c.code.ensures ∙ ap coded made.answer; given = public; kept = secret; sent = sealed; opened = read; cleared = made.cleared }

@@ -13,4 +13,13 @@ returns c =
     let secret = rw made.answer at made.kept in
     let sealed = rw made.answer at made.closed in
     let sent = rw made.answer at made.agreed in
-    let received = rw made.answer at made.opened in record { answer = c.code.ensures ∙ ap coded made.answer; given = public; kept = secret; closed = sealed; agreed = sent; opened = received; cleared = made.cleared }
+    let received = rw made.answer at made.opened in
+    record {
+      answer = c.code.ensures ∙ ap coded made.answer;
+      given = public;
+      kept = secret;
+      closed = sealed;
+      agreed = sent;
+      opened = received;
+      cleared = made.cleared;
+    }

@@ -75,7 +75,9 @@ correlate-requires c =
     (front_size (goal.at.correlate-requires c).After-recover_first) (front_made (goal.at.correlate-requires c).After-recover_first) in (
       c.requires.1,
       c.load_tables.ensures,
-      rw count.ensures (subst⁻¹ (λ (l : List ℕ). Placed (p (goal.at.correlate-requires c).After-recover_first) 3 ((p (goal.at.correlate-requires c).After-recover_first).n + (p (goal.at.correlate-requires c).After-recover_first).k) l) (buffer (goal.at.correlate-requires c).After-recover_first) placed),
+      rw count.ensures (subst⁻¹ (λ (l : List ℕ). Placed (p (goal.at.correlate-requires c).After-recover_first) 3
+          ((p (goal.at.correlate-requires c).After-recover_first).n + (p (goal.at.correlate-requires c).After-recover_first).k) l)
+          (buffer (goal.at.correlate-requires c).After-recover_first) placed),
       omega (arith, count.ensures, kept.some_n),
       c.requires.3,
       omega (arith, count.ensures, third_size (p (goal.at.correlate-requires c).After-recover_first), kept.holds3, kept.some_n),
@@ -85,5 +87,6 @@ pub returns : goal.returns
 returns c =
     let count = c.first_count in
     first_correlated (p (goal.at.returns c).After-recover_first) c.requires.1 c.args.x.now c.args.ciphertext.now c.recover_first.new.x c.requires.5
-    (front_size (goal.at.returns c).After-recover_first) (front_made (goal.at.returns c).After-recover_first) c.args.stored.now c.correlate.new.x _ _ (buffer (goal.at.returns c).After-recover_first) count.ensures
+    (front_size (goal.at.returns c).After-recover_first) (front_made (goal.at.returns c).After-recover_first) c.args.stored.now c.correlate.new.x _ _
+    (buffer (goal.at.returns c).After-recover_first) count.ensures
     c.correlate.ensures

@@ -33,7 +33,11 @@ residues_from-drawn-requires c =
     let p = c.args.p in
     let kept = listed_rules p c.requires.1 in
     let bytes = c.requires.0 in
-    let room = rw (← c.requires.5) at (secret_room p) in rw (front_length c.args.work.now p.d3 room) (record { rules = (kept, omega (arith, c.requires.2), bytes.some_bytpcs, bytes.most_bytpcs); out_nonzero = (omega (arith, kept.holds3, kept.some_n, kept.some_d, kept.some_k), omega (arith, kept.most_d3)) })
+    let room = rw (← c.requires.5) at (secret_room p) in
+    rw (front_length c.args.work.now p.d3 room) (record {
+      rules = (kept, omega (arith, c.requires.2), bytes.some_bytpcs, bytes.most_bytpcs);
+      out_nonzero = (omega (arith, kept.holds3, kept.some_n, kept.some_d, kept.some_k), omega (arith, kept.most_d3));
+    })
 
 -- after the draw: the secret's seed, the set's parameters, the work slice before, and what the draw left at its front
 module _ (c : After-residues_from-drawn) where
@@ -81,7 +85,9 @@ module _ (c : After-residues_from-drawn) where
         (secret_placed p c.requires.1 seed secret.xs secret.drawn_is)
 
 pub slice_bounds-read-end : goal.slice_bounds-read-end
-slice_bounds-read-end c = front_room (drawn (goal.at.slice_bounds-read-end c).After-residues_from-drawn) _ (p (goal.at.slice_bounds-read-end c).After-residues_from-drawn).d3 (drawn_length (goal.at.slice_bounds-read-end c).After-residues_from-drawn)
+slice_bounds-read-end c =
+    front_room (drawn (goal.at.slice_bounds-read-end c).After-residues_from-drawn) _ (p (goal.at.slice_bounds-read-end c).After-residues_from-drawn).d3
+    (drawn_length (goal.at.slice_bounds-read-end c).After-residues_from-drawn)
 
 pub read-requires : goal.read-requires
 read-requires c =
@@ -89,7 +95,9 @@ read-requires c =
       c.requires.0,
       c.requires.1,
       c.requires.3,
-      subst⁻¹ (λ (l : List ℕ). Placed (p (goal.at.read-requires c).After-residues_from-drawn) 3 (transform_size_of (p (goal.at.read-requires c).After-residues_from-drawn) 3) l) (stored (goal.at.read-requires c).After-residues_from-drawn told) (stored_placed (goal.at.read-requires c).After-residues_from-drawn told),
+      subst⁻¹ (λ (l : List ℕ). Placed (p (goal.at.read-requires c).After-residues_from-drawn) 3
+          (transform_size_of (p (goal.at.read-requires c).After-residues_from-drawn) 3) l) (stored (goal.at.read-requires c).After-residues_from-drawn told)
+          (stored_placed (goal.at.read-requires c).After-residues_from-drawn told),
       c.requires.4,
     )
 
@@ -97,15 +105,25 @@ pub returns-in_default : goal.returns-in_default
 returns-in_default c =
     let told = c.in_default.is in
     let bytes = c.requires.0 in
-    let none = answer_refusal (p (goal.at.returns-in_default c).After-residues_from-drawn) (initial (seed (goal.at.returns-in_default c).After-residues_from-drawn)) (p (goal.at.returns-in_default c).After-residues_from-drawn).bytpcs (p (goal.at.returns-in_default c).After-residues_from-drawn).d3 bytes.some_bytpcs _ (answered (goal.at.returns-in_default c).After-residues_from-drawn ∙ ap (onward (seed (goal.at.returns-in_default c).After-residues_from-drawn)) told) in
+    let none = answer_refusal (p (goal.at.returns-in_default c).After-residues_from-drawn)
+    (initial (seed (goal.at.returns-in_default c).After-residues_from-drawn)) (p (goal.at.returns-in_default c).After-residues_from-drawn).bytpcs
+    (p (goal.at.returns-in_default c).After-residues_from-drawn).d3 bytes.some_bytpcs _ (answered (goal.at.returns-in_default c).After-residues_from-drawn
+    ∙ ap (onward (seed (goal.at.returns-in_default c).After-residues_from-drawn)) told) in
     let five = c.refusal_of.ensures ∙ ap refused_by told ∙ none.0 in
-    let call = refused_call _ _ (secret_refused (p (goal.at.returns-in_default c).After-residues_from-drawn) (seed (goal.at.returns-in_default c).After-residues_from-drawn) none.1) in record { answer = ap (λ (k : ℕ). refused k 0) five ∙ call.0; read = call.1 }
+    let call = refused_call _ _ (secret_refused (p (goal.at.returns-in_default c).After-residues_from-drawn)
+    (seed (goal.at.returns-in_default c).After-residues_from-drawn) none.1) in record { answer = ap (λ (k : ℕ). refused k 0) five ∙ call.0; read = call.1 }
 
 pub returns : goal.returns
 returns c =
     let ct = c.args.ciphertext.now in
     let told = c.in-Counter.is in
-    let found = secret (goal.at.returns c).After-residues_from-drawn told in let whole = accepted_call _ _ (secret_taken (p (goal.at.returns c).After-residues_from-drawn) (seed (goal.at.returns c).After-residues_from-drawn) found.xs found.drawn_is).0
+    let found = secret (goal.at.returns c).After-residues_from-drawn told in
+    let whole = accepted_call _ _ (secret_taken (p (goal.at.returns c).After-residues_from-drawn) (seed (goal.at.returns c).After-residues_from-drawn) found.xs
+    found.drawn_is).0
     (c.read.ensures
-    ∙ ap (λ (l : List ℕ). decrypted_message_from (p (goal.at.returns c).After-residues_from-drawn) l ct) (stored (goal.at.returns c).After-residues_from-drawn told)
-    ∙ opened_message (p (goal.at.returns c).After-residues_from-drawn) (seed (goal.at.returns c).After-residues_from-drawn) ct) in record { answer = whole.0; read = whole.1 }
+    ∙ ap (λ (l : List ℕ). decrypted_message_from (p (goal.at.returns c).After-residues_from-drawn) l ct) (stored (goal.at.returns c).After-residues_from-drawn
+    told)
+    ∙ opened_message (p (goal.at.returns c).After-residues_from-drawn) (seed (goal.at.returns c).After-residues_from-drawn) ct) in record {
+      answer = whole.0;
+      read = whole.1;
+    }

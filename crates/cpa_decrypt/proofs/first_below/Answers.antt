@@ -30,7 +30,8 @@ unpacked : (c : After-unpack_into) → c.unpack_into.new.out ≡ cipher_first c.
 unpacked c =
     let p = c.args.p in
     c.unpack_into.ensures
-    ∙ first_unpacked p c.args.ciphertext.now (front_length c.args.work.now p.d2 (room (goal.at.After-unpack_into c).After-first_bytes-end)) c.first_bytes-end.ensures.0
+    ∙ first_unpacked p c.args.ciphertext.now (front_length c.args.work.now p.d2 (room (goal.at.After-unpack_into c).After-first_bytes-end))
+    c.first_bytes-end.ensures.0
 
 -- and how many numbers
 unpacked_length : (c : After-unpack_into) → length c.unpack_into.new.out ≡ c.args.p.d2
@@ -46,4 +47,5 @@ returns c =
     let ct = c.args.ciphertext.now in
     below_test p.q p.d2 c.first_at_least.result (cipher_first p ct) (cipher_first_length p ct)
     (c.first_at_least.ensures
-    ∙ ap (passing (below p.q) 0) (part_front c.unpack_into.new.out _ p.d2 (unpacked_length (goal.at.returns c).After-unpack_into) ∙ unpacked (goal.at.returns c).After-unpack_into))
+    ∙ ap (passing (below p.q) 0) (part_front c.unpack_into.new.out _ p.d2 (unpacked_length (goal.at.returns c).After-unpack_into) ∙ unpacked
+    (goal.at.returns c).After-unpack_into))

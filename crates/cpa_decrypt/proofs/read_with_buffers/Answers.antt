@@ -8,7 +8,12 @@ use Rattle.cpa_decrypt.proofs.read_with_buffers.Goals as goal
 
 pub bytes_of_bits-requires : goal.bytes_of_bits-requires
 bytes_of_bits-requires c =
-    let p = c.args.p in record { digit = rw c.read_bits.ensures (decrypted_bits_from_below p c.args.stored.now c.args.ciphertext.now); out_in_bounds = omega (arith, c.read_bits.auto, c.requires.6, c.requires.7, c.requires.0.message_bits) }
+    let p = c.args.p in
+    record {
+      digit = rw c.read_bits.ensures (decrypted_bits_from_below p c.args.stored.now c.args.ciphertext.now);
+      out_in_bounds = omega
+          (arith, c.read_bits.auto, c.requires.6, c.requires.7, c.requires.0.message_bits);
+    }
 
 pub returns : goal.returns
 unfolding decrypted_message_from

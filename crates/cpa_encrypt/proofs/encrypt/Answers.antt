@@ -42,7 +42,8 @@ seed_fits c = omega (arith, (ends c.args.p c.requires.1).seed_fits, c.requires.2
 
 pub returns-then-not-load : goal.returns-then-not-load
 returns-then-not-load c =
-    let whole = refused_call _ _ (numbers_refused c.args.p c.args.key.now (sym c.load.ensures.answer ∙ c.if-not-load.true)) in record { answer = whole.0; sealed = whole.1 }
+    let whole = refused_call _ _ (numbers_refused c.args.p c.args.key.now (sym c.load.ensures.answer ∙ c.if-not-load.true)) in
+    record { answer = whole.0; sealed = whole.1 }
 
 pub slice_bounds-encrypt_numbers-end : goal.slice_bounds-encrypt_numbers-end
 slice_bounds-encrypt_numbers-end c = omega (arith, seed_fits (goal.at.slice_bounds-encrypt_numbers-end c).Start)
@@ -77,4 +78,5 @@ returns c =
     let held = c.load.ensures.held in
     let sealed = c.encrypt_numbers.ensures in let whole = draws_decide p c.args.key.now c.args.message.now c.args.seed.now _ _ _ _ _
     (sym c.load.ensures.answer ∙ c.if-not-load.false) (held_numbers p c.args.key.now c.args.seed.now _ held)
-    (held_multipliers p c.args.key.now c.args.seed.now _ held _ c.multiplier_count.ensures) sealed.answer sealed.sealed in record { answer = whole.0; sealed = whole.1 }
+    (held_multipliers p c.args.key.now c.args.seed.now _ held _ c.multiplier_count.ensures) sealed.answer sealed.sealed in
+    record { answer = whole.0; sealed = whole.1 }

@@ -40,25 +40,43 @@ front_size c = front_length (lent c) c.packed_bytes-middle.result (fits c)
 
 pub encrypt_first-first-requires : goal.encrypt_first-first-requires
 encrypt_first-first-requires c =
-    let pre = c.requires in
-    (pre.0, pre.1, pre.2, pre.4, front_size (goal.at.encrypt_first-first-requires c).After-packed_bytes-middle ∙ c.packed_bytes-middle.ensures ∙ (ends c.args.p pre.1).first_is)
+    let pre = c.requires in (
+      pre.0,
+      pre.1,
+      pre.2,
+      pre.4,
+      front_size (goal.at.encrypt_first-first-requires c).After-packed_bytes-middle ∙ c.packed_bytes-middle.ensures ∙
+          (ends c.args.p pre.1).first_is,
+    )
 
 -- the first part has its length, and so has the whole ciphertext after it is written
 first_size : (c : After-encrypt_first-first) → length c.encrypt_first-first.new.out ≡ c.packed_bytes-middle.result
 first_size c = c.encrypt_first-first.auto.out ∙ front_size (goal.at.After-encrypt_first-first c).After-packed_bytes-middle
 
 abbrev written : After-encrypt_first-first → List ℕ
-written c = let ct = lent (goal.at.After-encrypt_first-first c).After-packed_bytes-middle in take 0 ct ++ (c.encrypt_first-first.new.out ++ drop (c.packed_bytes-middle.result - 0) (drop 0 ct))
+written c = let ct = lent (goal.at.After-encrypt_first-first c).After-packed_bytes-middle in
+    take 0 ct ++ (c.encrypt_first-first.new.out ++ drop (c.packed_bytes-middle.result - 0) (drop 0 ct))
 
 whole_size : (c : After-encrypt_first-first) → length (written c) ≡ length (lent (goal.at.After-encrypt_first-first c).After-packed_bytes-middle)
 whole_size c =
-    back_length (lent (goal.at.After-encrypt_first-first c).After-packed_bytes-middle) c.encrypt_first-first.new.out c.packed_bytes-middle.result (first_size c) (fits (goal.at.After-encrypt_first-first c).After-packed_bytes-middle)
+    back_length (lent (goal.at.After-encrypt_first-first c).After-packed_bytes-middle) c.encrypt_first-first.new.out c.packed_bytes-middle.result
+    (first_size c) (fits (goal.at.After-encrypt_first-first c).After-packed_bytes-middle)
 
 pub slice_bounds-encrypt_second-count : goal.slice_bounds-encrypt_second-count
-slice_bounds-encrypt_second-count c = omega (arith, whole_size (goal.at.slice_bounds-encrypt_second-count c).After-encrypt_first-first, fits (goal.at.slice_bounds-encrypt_second-count c).After-packed_bytes-middle)
+slice_bounds-encrypt_second-count c =
+    omega (
+      arith,
+      whole_size (goal.at.slice_bounds-encrypt_second-count c).After-encrypt_first-first,
+      fits (goal.at.slice_bounds-encrypt_second-count c).After-packed_bytes-middle,
+    )
 
 pub slice_bounds-encrypt_second-start : goal.slice_bounds-encrypt_second-start
-slice_bounds-encrypt_second-start c = omega (arith, whole_size (goal.at.slice_bounds-encrypt_second-start c).After-encrypt_first-first, fits (goal.at.slice_bounds-encrypt_second-start c).After-packed_bytes-middle)
+slice_bounds-encrypt_second-start c =
+    omega (
+      arith,
+      whole_size (goal.at.slice_bounds-encrypt_second-start c).After-encrypt_first-first,
+      fits (goal.at.slice_bounds-encrypt_second-start c).After-packed_bytes-middle,
+    )
 
 pub encrypt_second-requires : goal.encrypt_second-requires
 encrypt_second-requires c =
@@ -71,16 +89,20 @@ encrypt_second-requires c =
       pre.3,
       pre.4,
       rest_length (written (goal.at.encrypt_second-requires c).After-encrypt_first-first) bytes.result (second_bytes p)
-          (whole_size (goal.at.encrypt_second-requires c).After-encrypt_first-first ∙ pre.5 ∙ ending.whole_is ∙ ap (λ (n : ℕ). n + second_bytes p) (sym (bytes.ensures ∙ ending.first_is))),
+          (whole_size (goal.at.encrypt_second-requires c).After-encrypt_first-first ∙ pre.5 ∙ ending.whole_is ∙ ap (λ (n : ℕ). n + second_bytes p)
+          (sym (bytes.ensures ∙ ending.first_is))),
     )
 
 pub returns-in_default : goal.returns-in_default
 returns-in_default c =
     let made = c.encrypt_first-first.ensures in
     let told = ap outcome c.in_default.is in
-    let call = front_refused (lent (goal.at.returns-in_default c).After-packed_bytes-middle) _ _ _ c.packed_bytes-middle.result (sym made.answer ∙ told) made.left in record { answer = told ∙ call.0; sealed = call.1 }
+    let call = front_refused (lent (goal.at.returns-in_default c).After-packed_bytes-middle) _ _ _ c.packed_bytes-middle.result (sym made.answer ∙ told)
+    made.left in record { answer = told ∙ call.0; sealed = call.1 }
 
 pub returns : goal.returns
 returns c =
     let made = c.encrypt_first-first.ensures in
-    let done = sym made.answer ∙ ap outcome c.in-Done.is in let whole = both_accepted (lent (goal.at.returns c).After-packed_bytes-middle) _ _ _ _ c.packed_bytes-middle.result done (first_size (goal.at.returns c).After-encrypt_first-first) made.left c.encrypt_second.ensures in record { answer = whole.0; sealed = whole.1 }
+    let done = sym made.answer ∙ ap outcome c.in-Done.is in
+    let whole = both_accepted (lent (goal.at.returns c).After-packed_bytes-middle) _ _ _ _ c.packed_bytes-middle.result done
+    (first_size (goal.at.returns c).After-encrypt_first-first) made.left c.encrypt_second.ensures in record { answer = whole.0; sealed = whole.1 }

@@ -53,8 +53,10 @@ pub read_key-below-requires : goal.read_key-below-requires
 read_key-below-requires c = (listed_rules c.args.p c.requires.1, c.requires.0)
 
 -- the numbers of the key fill the first part of the work slice
-part_size : (c : After-read_key-below) → length (take (keys (goal.at.After-read_key-below c).Start - 0) (drop 0 c.args.work.now)) ≡ keys (goal.at.After-read_key-below c).Start
-part_size c = front_length c.args.work.now (keys (goal.at.After-read_key-below c).Start) (omega (arith, fits (goal.at.After-read_key-below c).After-multiplier_count))
+part_size : (c : After-read_key-below)
+    → length (take (keys (goal.at.After-read_key-below c).Start - 0) (drop 0 c.args.work.now)) ≡ keys (goal.at.After-read_key-below c).Start
+part_size c =
+    front_length c.args.work.now (keys (goal.at.After-read_key-below c).Start) (omega (arith, fits (goal.at.After-read_key-below c).After-multiplier_count))
 
 numbers_size : (c : After-read_key-below) → length c.read_key-below.new.numbers ≡ keys (goal.at.After-read_key-below c).Start
 numbers_size c = c.read_key-below.auto.numbers ∙ part_size c
@@ -75,17 +77,25 @@ written c = let work = c.args.work.now in take 0 work ++ (c.read_key-below.new.n
 
 -- it keeps its length
 read_size : (c : After-read_key-below) → length (written c) ≡ length c.args.work.now
-read_size c = back_length c.args.work.now c.read_key-below.new.numbers (keys (goal.at.After-read_key-below c).Start) (numbers_size c) (omega (arith, fits (goal.at.After-read_key-below c).After-multiplier_count))
+read_size c =
+    back_length c.args.work.now c.read_key-below.new.numbers (keys (goal.at.After-read_key-below c).Start) (numbers_size c)
+    (omega (arith, fits (goal.at.After-read_key-below c).After-multiplier_count))
 
 pub slice_bounds-multipliers_from-end : goal.slice_bounds-multipliers_from-end
-slice_bounds-multipliers_from-end c = omega (arith, read_size (goal.at.slice_bounds-multipliers_from-end c).After-read_key-below, fits (goal.at.slice_bounds-multipliers_from-end c).After-multiplier_count)
+slice_bounds-multipliers_from-end c =
+    omega (
+      arith,
+      read_size (goal.at.slice_bounds-multipliers_from-end c).After-read_key-below,
+      fits (goal.at.slice_bounds-multipliers_from-end c).After-multiplier_count,
+    )
 
 -- the part of the multipliers
 multipliers_size : (c : After-read_key-below) → let from = keys (goal.at.After-read_key-below c).Start in
     let end = from + c.multiplier_count.result in
     length (take (end - from) (drop from (written c))) ≡ end - from
 multipliers_size c =
-    part_long (written c) (keys (goal.at.After-read_key-below c).Start) (keys (goal.at.After-read_key-below c).Start + c.multiplier_count.result) (omega (arith, read_size c, fits (goal.at.After-read_key-below c).After-multiplier_count))
+    part_long (written c) (keys (goal.at.After-read_key-below c).Start) (keys (goal.at.After-read_key-below c).Start + c.multiplier_count.result)
+    (omega (arith, read_size c, fits (goal.at.After-read_key-below c).After-multiplier_count))
 
 pub multipliers_from-requires : goal.multipliers_from-requires
 multipliers_from-requires c =
@@ -107,5 +117,6 @@ returns c =
     record {
       answer = sym (checked (goal.at.returns c).After-read_key-below);
       held = loaded c.args.p c.args.key.now c.args.seed.now c.args.work.now _ _ _ c.multiplier_count.ensures
-          (numbers_size (goal.at.returns c).After-read_key-below) (drawn_size (goal.at.returns c).After-multipliers_from) (numbers_are (goal.at.returns c).After-read_key-below) c.multipliers_from.ensures;
+          (numbers_size (goal.at.returns c).After-read_key-below) (drawn_size (goal.at.returns c).After-multipliers_from)
+          (numbers_are (goal.at.returns c).After-read_key-below) c.multipliers_from.ensures;
     }

@@ -42,7 +42,11 @@ errors_from-requires c =
     let pre = c.requires in
     let size =
     part_length c.args.work.now p.d3 (vectors_start_of p) (error_count_of p) (sym (secret_room p pre.0 pre.1))
-    (omega (arith, pre.3, vectors_room p pre.0 pre.1, secret_room p pre.0 pre.1)) in rw c.vectors_start-end.ensures (record { rules = (listed_rules p pre.1, pre.0, omega (arith, pre.2), size); p_bound = omega (arith, pre.4, pre.0.most_error_bytes) })
+    (omega (arith, pre.3, vectors_room p pre.0 pre.1, secret_room p pre.0 pre.1)) in
+    rw c.vectors_start-end.ensures (record {
+      rules = (listed_rules p pre.1, pre.0, omega (arith, pre.2), size);
+      p_bound = omega (arith, pre.4, pre.0.most_error_bytes);
+    })
 
 pub returns : goal.returns
 returns c =

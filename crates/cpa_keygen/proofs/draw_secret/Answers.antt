@@ -32,7 +32,12 @@ returns-in_default c =
     let p = c.args.p in
     let seed = c.args.seed.now in
     let told = c.in_default.is in
-    let none = stopped _ _ (secret_drawn p seed) (secret_never_ends p c.requires.0 seed) (sym (ap (onward seed) told) ∙ c.draw_stored-drawn.ensures.answer) in record { answer = refuse_not_taken accepted none.not_taken (c.refusal_of.ensures ∙ ap refused_by told ∙ none.five); result = λ t. absurd (true_false t none.not_taken) }
+    let none = stopped _ _ (secret_drawn p seed) (secret_never_ends p c.requires.0 seed) (sym (ap (onward seed) told) ∙ c.draw_stored-drawn.ensures.answer) in
+    record {
+      answer = refuse_not_taken accepted none.not_taken (c.refusal_of.ensures ∙ ap refused_by told ∙ none.five);
+      result = λ t. absurd
+          (true_false t none.not_taken);
+    }
 
 pub returns : goal.returns
 returns c =

@@ -29,7 +29,12 @@ residues_from-requires c =
     let p = c.args.p in
     let pre = c.requires in
     let kept = listed_rules p pre.1 in
-    let bytes = pre.0 in rw (front_length c.args.work.now p.d3 (room (goal.at.residues_from-requires c).Start)) (record { rules = (kept, omega (arith, pre.2), bytes.some_bytpcs, bytes.most_bytpcs); out_nonzero = (omega (arith, kept.some_n, kept.some_d, kept.some_k, kept.holds3), omega (arith, kept.most_d3)) })
+    let bytes = pre.0 in
+    rw (front_length c.args.work.now p.d3 (room (goal.at.residues_from-requires c).Start))
+    (record {
+      rules = (kept, omega (arith, pre.2), bytes.some_bytpcs, bytes.most_bytpcs);
+      out_nonzero = (omega (arith, kept.some_n, kept.some_d, kept.some_k, kept.holds3), omega (arith, kept.most_d3));
+    })
 
 pub returns : goal.returns
 unfolding stored_secret

@@ -40,13 +40,22 @@ module _ (c : After-source_bytes) where
 
 pub store_key-stored-requires : goal.store_key-stored-requires
 store_key-stored-requires c =
-    let pre = c.requires in
-    (pre.0, pre.1, secret_size (goal.at.store_key-stored-requires c).After-source_bytes-next, public_size (goal.at.store_key-stored-requires c).After-source_bytes, pre.5)
+    let pre = c.requires in (
+      pre.0,
+      pre.1,
+      secret_size (goal.at.store_key-stored-requires c).After-source_bytes-next,
+      public_size (goal.at.store_key-stored-requires c).After-source_bytes,
+      pre.5,
+    )
 
 pub write_public_key-requires : goal.write_public_key-requires
 write_public_key-requires c =
     let pre = c.requires in
-    let vectors = c.store_key-stored in record { byte_rules = (pre.0, pre.1, public_size (goal.at.write_public_key-requires c).After-source_bytes, vectors.auto.work ∙ pre.5, pre.3); digit = stored_digits c.args.p pre.1 _ _ (vectors.ensures.result (ap outcome c.in-Done.is)) }
+    let vectors = c.store_key-stored in
+    record {
+      byte_rules = (pre.0, pre.1, public_size (goal.at.write_public_key-requires c).After-source_bytes, vectors.auto.work ∙ pre.5, pre.3);
+      digit = stored_digits c.args.p pre.1 _ _ (vectors.ensures.result (ap outcome c.in-Done.is));
+    }
 
 pub copy_at-requires : goal.copy_at-requires
 copy_at-requires c =
@@ -55,7 +64,9 @@ copy_at-requires c =
 pub returns-in_default : goal.returns-in_default
 returns-in_default c =
     let told = ap outcome c.in_default.is in
-    let decided = draws_decide c.args.p c.args.seed.now _ _ (first_is (goal.at.returns-in_default c).After-source_bytes) (second_is (goal.at.returns-in_default c).After-source_bytes) c.store_key-stored.ensures.answer ∙ told in record { answer = told ∙ sym decided; public = sym (leaves_refused _ _ decided); secret = sym (leaves_refused _ _ decided) }
+    let decided = draws_decide c.args.p c.args.seed.now _ _ (first_is (goal.at.returns-in_default c).After-source_bytes)
+    (second_is (goal.at.returns-in_default c).After-source_bytes) c.store_key-stored.ensures.answer ∙ told in
+    record { answer = told ∙ sym decided; public = sym (leaves_refused _ _ decided); secret = sym (leaves_refused _ _ decided) }
 
 pub returns : goal.returns
 returns c =
@@ -63,10 +74,12 @@ returns c =
     let p = c.args.p in
     let seed = c.args.seed.now in
     let accepted-key = ap outcome c.in-Done.is in
-    let decided = draws_decide p seed _ _ (first_is (goal.at.returns c).After-source_bytes) (second_is (goal.at.returns c).After-source_bytes) vectors.ensures.answer ∙ accepted-key in record {
+    let decided = draws_decide p seed _ _ (first_is (goal.at.returns c).After-source_bytes) (second_is (goal.at.returns c).After-source_bytes)
+    vectors.ensures.answer ∙ accepted-key in record {
       answer = sym decided;
       public = c.write_public_key.ensures
-          ∙ key_made p seed _ _ (first_is (goal.at.returns c).After-source_bytes) (second_is (goal.at.returns c).After-source_bytes) _ (vectors.ensures.result accepted-key)
+          ∙ key_made p seed _ _ (first_is (goal.at.returns c).After-source_bytes) (second_is (goal.at.returns c).After-source_bytes) _
+          (vectors.ensures.result accepted-key)
           ∙ sym (leaves_accepted _ _ decided);
       secret = c.copy_at.ensures
           ∙ over_whole _ _ (secret_size (goal.at.returns c).After-source_bytes-next ∙ sym c.requires.4)

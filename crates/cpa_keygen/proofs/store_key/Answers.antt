@@ -28,7 +28,8 @@ returns-in_default c =
     let told = ap outcome c.in_default.is in
     let public = refuse (not (all_taken p.t (public_drawn p c.args.seedpk.now))) 5 0 accepted in
     let decided =
-    draw_refused (is_taken (secret_drawn p c.args.seedsk.now)) public (sym c.draw_secret-drawn.ensures.answer ∙ told) in record { answer = told ∙ decided; result = λ e. absurd (accepted_refused e told) }
+    draw_refused (is_taken (secret_drawn p c.args.seedsk.now)) public (sym c.draw_secret-drawn.ensures.answer ∙ told) in
+    record { answer = told ∙ decided; result = λ e. absurd (accepted_refused e told) }
 
 pub returns : goal.returns
 returns c =

@@ -55,4 +55,5 @@ returns c =
     let made = c.decrypt_if_below-answer in
     let left = rw c.parameters_of-p.ensures at made.ensures in let whole = one_drawn (decrypt_draws p args.secret.now args.ciphertext.now) args.work.now
     (decrypted_message p args.secret.now args.ciphertext.now) args.message.now
-    (passed (goal.at.returns c).In-Done) (left.answer, left.read) (c.clear.ensures ∙ ap (λ (n : ℕ). replicate n 0) made.auto.work) in record { answer = whole.0; read = whole.1.0; cleared = whole.1.1 }
+    (passed (goal.at.returns c).In-Done) (left.answer, left.read) (c.clear.ensures ∙ ap (λ (n : ℕ). replicate n 0) made.auto.work) in
+    record { answer = whole.0; read = whole.1.0; cleared = whole.1.1 }

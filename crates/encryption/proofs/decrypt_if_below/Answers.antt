@@ -18,4 +18,5 @@ returns-then-not-first_below c =
 pub returns : goal.returns
 returns c =
     let opened = c.decrypt in
-    let passed = reading_passed _ _ _ (sym c.first_below.ensures ∙ c.if-not-first_below.false) in record { answer = opened.ensures.answer ∙ sym passed; read = opened.ensures.read ∙ rw passed }
+    let passed = reading_passed _ _ _ (sym c.first_below.ensures ∙ c.if-not-first_below.false) in
+    record { answer = opened.ensures.answer ∙ sym passed; read = opened.ensures.read ∙ rw passed }

@@ -55,4 +55,5 @@ returns c =
     let made = c.encrypt-answer in
     let left = rw c.parameters_of-p.ensures at made.ensures in let whole = one_drawn (encrypt_draws p args.public.now) args.work.now
     (scheme.ciphertext p args.public.now args.message.now args.seed.now) args.ciphertext.now
-    (passed (goal.at.returns c).In-Done) (left.answer, left.sealed) (c.clear.ensures ∙ ap (λ (n : ℕ). replicate n 0) made.auto.work) in record { answer = whole.0; given = whole.1.0; cleared = whole.1.1 }
+    (passed (goal.at.returns c).In-Done) (left.answer, left.sealed) (c.clear.ensures ∙ ap (λ (n : ℕ). replicate n 0) made.auto.work) in
+    record { answer = whole.0; given = whole.1.0; cleared = whole.1.1 }

@@ -56,4 +56,5 @@ returns c =
     let left = rw c.parameters_of-p.ensures at made.ensures in let whole = two_drawn (key_draws p args.seed.now) args.work.now
     (public_key p args.seed.now) args.public.now
     (secret_seed p args.seed.now) args.secret.now
-    (passed (goal.at.returns c).In-Done) (left.answer, (left.public, left.secret)) (c.clear.ensures ∙ ap (λ (n : ℕ). replicate n 0) made.auto.work) in record { answer = whole.0; given = whole.1.0; kept = whole.1.1.0; cleared = whole.1.1.1 }
+    (passed (goal.at.returns c).In-Done) (left.answer, (left.public, left.secret)) (c.clear.ensures ∙ ap (λ (n : ℕ). replicate n 0) made.auto.work) in
+    record { answer = whole.0; given = whole.1.0; kept = whole.1.1.0; cleared = whole.1.1.1 }

@@ -53,4 +53,5 @@ returns c =
     let made = c.decapsulated_key-answer in
     let left = rw c.parameters_of-p.ensures at made.ensures in let whole = one_drawn (decapsulate_draws p args.secret.now) args.work.now
     (decapsulated p args.secret.now args.ciphertext.now) args.shared.now
-    (passed (goal.at.returns c).In-Done) (left.answer, left.agreed) (c.clear.ensures ∙ ap (λ (n : ℕ). replicate n 0) made.auto.work) in record { answer = whole.0; agreed = whole.1.0; cleared = whole.1.1 }
+    (passed (goal.at.returns c).In-Done) (left.answer, left.agreed) (c.clear.ensures ∙ ap (λ (n : ℕ). replicate n 0) made.auto.work) in
+    record { answer = whole.0; agreed = whole.1.0; cleared = whole.1.1 }

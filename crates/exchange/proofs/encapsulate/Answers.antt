@@ -31,7 +31,8 @@ returns-in_default c =
     let p = set_of args.set in let whole = two_refused (encrypt_draws p args.public.now) args.work.now
     (encapsulated p args.public.now args.message.now) args.ciphertext.now
     (shared_key p args.public.now args.message.now) args.shared.now
-    c.encrypt_checked-checked.ensures (ap outcome c.in_default.is) in record { answer = whole.0; given = whole.1.0; agreed = whole.1.1.0; cleared = whole.1.1.1 }
+    c.encrypt_checked-checked.ensures (ap outcome c.in_default.is) in
+    record { answer = whole.0; given = whole.1.0; agreed = whole.1.1.0; cleared = whole.1.1.1 }
 
 pub encapsulated_key-answer-requires : goal.encapsulated_key-answer-requires
 encapsulated_key-answer-requires c =
@@ -56,4 +57,5 @@ returns c =
     let left = rw c.parameters_of-p.ensures at made.ensures in let whole = two_drawn (encrypt_draws p args.public.now) args.work.now
     (encapsulated p args.public.now args.message.now) args.ciphertext.now
     (shared_key p args.public.now args.message.now) args.shared.now
-    (passed (goal.at.returns c).In-Done) (left.answer, (left.given, left.agreed)) (c.clear.ensures ∙ ap (λ (n : ℕ). replicate n 0) made.auto.work) in record { answer = whole.0; given = whole.1.0; agreed = whole.1.1.0; cleared = whole.1.1.1 }
+    (passed (goal.at.returns c).In-Done) (left.answer, (left.given, left.agreed)) (c.clear.ensures ∙ ap (λ (n : ℕ). replicate n 0) made.auto.work) in
+    record { answer = whole.0; given = whole.1.0; agreed = whole.1.1.0; cleared = whole.1.1.1 }

@@ -43,7 +43,9 @@ ruled c =
 -- a position past the last
 past : (c : After-parameters_of-p) → multiplier_count_of c.parameters_of-p.result < c.args.first + wanted (goal.at.After-parameters_of-p c).Start →
     answered (goal.at.After-parameters_of-p c).Start ≡ refused 2 0
-past c h = multipliers_past _ _ _ (shape (goal.at.After-parameters_of-p c).In-Done) _ c.parameters_of-p.ensures _ (some (goal.at.After-parameters_of-p c).Else-wanted-eq0) h
+past c h =
+    multipliers_past _ _ _ (shape (goal.at.After-parameters_of-p c).In-Done) _ c.parameters_of-p.ensures _
+    (some (goal.at.After-parameters_of-p c).Else-wanted-eq0) h
 
 -- no position is past the last
 within : (c : Else-count-wanted-2) → c.args.first + wanted (goal.at.Else-count-wanted-2 c).Start ≤ multiplier_count_of c.parameters_of-p.result
@@ -52,11 +54,13 @@ within c = omega (arith, c.multiplier_count-count.ensures)
 pub returns-in_default : goal.returns-in_default
 unfolding multipliers_answer multipliers_left
 returns-in_default c =
-    let told = ap outcome c.in_default.is in let whole = refused_both _ _ told (shape_refused _ _ (sym c.check_shape-shape.ensures ∙ told) _) in record { answer = whole.0; result = whole.1 }
+    let told = ap outcome c.in_default.is in let whole = refused_both _ _ told (shape_refused _ _ (sym c.check_shape-shape.ensures ∙ told) _) in
+    record { answer = whole.0; result = whole.1 }
 
 pub returns-then-wanted-eq0 : goal.returns-then-wanted-eq0
 returns-then-wanted-eq0 c =
-    let whole = multipliers_none _ _ _ _ (shape (goal.at.returns-then-wanted-eq0 c).In-Done) c.if-wanted-eq0.true in record { answer = whole.0; result = whole.1 }
+    let whole = multipliers_none _ _ _ _ (shape (goal.at.returns-then-wanted-eq0 c).In-Done) c.if-wanted-eq0.true in
+    record { answer = whole.0; result = whole.1 }
 
 pub multiplier_count-count-requires : goal.multiplier_count-count-requires
 multiplier_count-count-requires c = (ruled c).0
@@ -64,15 +68,18 @@ multiplier_count-count-requires c = (ruled c).0
 pub returns-then-count-wanted : goal.returns-then-count-wanted
 unfolding multipliers_left
 returns-then-count-wanted c =
-    let whole = refused_both _ _ refl (past (goal.at.returns-then-count-wanted c).After-parameters_of-p (omega (arith, c.multiplier_count-count.ensures))) in record { answer = whole.0; result = whole.1 }
+    let whole = refused_both _ _ refl (past (goal.at.returns-then-count-wanted c).After-parameters_of-p (omega (arith, c.multiplier_count-count.ensures))) in
+    record { answer = whole.0; result = whole.1 }
 
 pub returns-then-count-wanted-2 : goal.returns-then-count-wanted-2
 unfolding multipliers_left
 returns-then-count-wanted-2 c =
-    let whole = refused_both _ _ refl (past (goal.at.returns-then-count-wanted-2 c).After-parameters_of-p (omega (arith, c.multiplier_count-count.ensures))) in record { answer = whole.0; result = whole.1 }
+    let whole = refused_both _ _ refl (past (goal.at.returns-then-count-wanted-2 c).After-parameters_of-p (omega (arith, c.multiplier_count-count.ensures))) in
+    record { answer = whole.0; result = whole.1 }
 
 pub lent_results-ready-requires : goal.lent_results-ready-requires
-lent_results-ready-requires c = ((ruled (goal.at.lent_results-ready-requires c).After-parameters_of-p).0, (ruled (goal.at.lent_results-ready-requires c).After-parameters_of-p).1, within c)
+lent_results-ready-requires c =
+    ((ruled (goal.at.lent_results-ready-requires c).After-parameters_of-p).0, (ruled (goal.at.lent_results-ready-requires c).After-parameters_of-p).1, within c)
 
 pub overflow_cast-result : goal.overflow_cast-result
 overflow_cast-result c = omega (arith, (shape (goal.at.overflow_cast-result c).In-Done).few)
@@ -81,16 +88,24 @@ pub returns-then-ready-wanted : goal.returns-then-ready-wanted
 unfolding multipliers_left
 returns-then-ready-wanted c =
     let counted = c.lent_results-ready.ensures in let whole = refused_both _ _ (ap (refused 4) counted)
-    (multipliers_short _ _ _ (shape (goal.at.returns-then-ready-wanted c).In-Done) _ c.parameters_of-p.ensures _ (some (goal.at.returns-then-ready-wanted c).Else-wanted-eq0) (within (goal.at.returns-then-ready-wanted c).Else-count-wanted-2) (omega (arith, c.if-ready-wanted.true))) in record { answer = whole.0; result = whole.1 }
+    (multipliers_short _ _ _ (shape (goal.at.returns-then-ready-wanted c).In-Done) _ c.parameters_of-p.ensures _
+    (some (goal.at.returns-then-ready-wanted c).Else-wanted-eq0) (within (goal.at.returns-then-ready-wanted c).Else-count-wanted-2)
+    (omega (arith, c.if-ready-wanted.true))) in record { answer = whole.0; result = whole.1 }
 
 pub fill_multipliers-requires : goal.fill_multipliers-requires
-fill_multipliers-requires c =
-    ((ruled (goal.at.fill_multipliers-requires c).After-parameters_of-p).0, (ruled (goal.at.fill_multipliers-requires c).After-parameters_of-p).1, within (goal.at.fill_multipliers-requires c).Else-count-wanted-2, omega (arith, c.if-ready-wanted.false))
+fill_multipliers-requires c = (
+  (ruled (goal.at.fill_multipliers-requires c).After-parameters_of-p).0,
+  (ruled (goal.at.fill_multipliers-requires c).After-parameters_of-p).1,
+  within (goal.at.fill_multipliers-requires c).Else-count-wanted-2,
+  omega (arith, c.if-ready-wanted.false),
+)
 
 pub returns : goal.returns
 unfolding multipliers_left
 returns c =
-    let drawn : Parameters → List ℤ = λ p. in_turn (multiplier_at_of p c.args.bytes.now) c.args.first (wanted (goal.at.returns c).Start) in let whole = accepted_both _
-    (multipliers_enough _ _ _ (shape (goal.at.returns c).In-Done) _ c.parameters_of-p.ensures _ (some (goal.at.returns c).Else-wanted-eq0) (within (goal.at.returns c).Else-count-wanted-2)
+    let drawn : Parameters → List ℤ = λ p. in_turn (multiplier_at_of p c.args.bytes.now) c.args.first (wanted (goal.at.returns c).Start) in
+    let whole = accepted_both _
+    (multipliers_enough _ _ _ (shape (goal.at.returns c).In-Done) _ c.parameters_of-p.ensures _ (some (goal.at.returns c).Else-wanted-eq0)
+    (within (goal.at.returns c).Else-count-wanted-2)
     (omega (arith, c.if-ready-wanted.false)))
     (c.fill_multipliers.ensures ∙ ap drawn c.parameters_of-p.ensures) in record { answer = whole.0; result = whole.1 }

@@ -23,7 +23,8 @@ answer c = residues_answer_lem _ _ _ (shape (goal.at.After-look-answer c).In-Don
 pub returns-in_default : goal.returns-in_default
 unfolding residues_answer residues_left
 returns-in_default c =
-    let told = ap outcome c.in_default.is in let whole = refused_both _ _ told (shape_refused _ _ (sym c.check_shape-shape.ensures ∙ told) _) in record { answer = whole.0; result = whole.1 }
+    let told = ap outcome c.in_default.is in let whole = refused_both _ _ told (shape_refused _ _ (sym c.check_shape-shape.ensures ∙ told) _) in
+    record { answer = whole.0; result = whole.1 }
 
 pub look-answer-requires : goal.look-answer-requires
 look-answer-requires c =
@@ -32,7 +33,8 @@ look-answer-requires c =
 pub returns-in_default-answer : goal.returns-in_default-answer
 unfolding residues_left
 returns-in_default-answer c =
-    let told = ap outcome c.in_default-answer.is in let whole = refused_both _ _ told (answer (goal.at.returns-in_default-answer c).After-look-answer ∙ told) in record { answer = whole.0; result = whole.1 }
+    let told = ap outcome c.in_default-answer.is in
+    let whole = refused_both _ _ told (answer (goal.at.returns-in_default-answer c).After-look-answer ∙ told) in record { answer = whole.0; result = whole.1 }
 
 pub fill-requires : goal.fill-requires
 fill-requires c = (
@@ -45,4 +47,5 @@ pub returns : goal.returns
 unfolding residues_left
 returns c =
     let whole = accepted_both _ (answer (goal.at.returns c).After-look-answer ∙ ap outcome c.in-Done-answer.is)
-    (c.fill.ensures ∙ ap numbers (residues_drawn_lem _ _ _ (shape (goal.at.returns c).In-Done) _ c.parameters_of-p.ensures)) in record { answer = whole.0; result = whole.1 }
+    (c.fill.ensures ∙ ap numbers (residues_drawn_lem _ _ _ (shape (goal.at.returns c).In-Done) _ c.parameters_of-p.ensures)) in
+    record { answer = whole.0; result = whole.1 }

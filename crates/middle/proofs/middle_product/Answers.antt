@@ -26,7 +26,8 @@ returns-then-set-gt-LAST c =
 pub returns-then-not-lengths_fit : goal.returns-then-not-lengths_fit
 unfolding middle_answer middle_left
 returns-then-not-lengths_fit c =
-    let whole = refused_call _ _ (opening_lengths _ _ 6 _ c.if-set-gt-LAST.false (sym c.lengths_fit.ensures ∙ c.if-not-lengths_fit.true)) in record { answer = whole.0; left = whole.1 }
+    let whole = refused_call _ _ (opening_lengths _ _ 6 _ c.if-set-gt-LAST.false (sym c.lengths_fit.ensures ∙ c.if-not-lengths_fit.true)) in
+    record { answer = whole.0; left = whole.1 }
 
 -- where the lengths fit
 lengths : (c : Else-not-lengths_fit)
@@ -69,7 +70,8 @@ fill-requires c =
 pub returns-in-Refused : goal.returns-in-Refused
 unfolding middle_left
 returns-in-Refused c =
-    let whole = refused_call _ _ (decided (goal.at.returns-in-Refused c).After-two_checked-checked ∙ ap outcome c.in-Refused.is) in record { answer = whole.0; left = whole.1 }
+    let whole = refused_call _ _ (decided (goal.at.returns-in-Refused c).After-two_checked-checked ∙ ap outcome c.in-Refused.is) in
+    record { answer = whole.0; left = whole.1 }
 
 pub returns-in-Done : goal.returns-in-Done
 unfolding middle_left

@@ -39,4 +39,11 @@ loop-r-preserved c =
 pub returns : goal.returns
 returns c =
     let pre = c.requires in
-    let loaded = c.load_block in record { result = storing_all pre.0 c.loop-r.invariant.2 c.loop-r.invariant.0 c.loop-r-test.false; lent = record { size = loaded.auto.block ∙ pre.1.size; zeros = loaded_zeros loaded.ensures pre.1 } }
+    let loaded = c.load_block in
+    record {
+      result = storing_all pre.0 c.loop-r.invariant.2 c.loop-r.invariant.0 c.loop-r-test.false;
+      lent = record {
+        size = loaded.auto.block ∙ pre.1.size;
+        zeros = loaded_zeros loaded.ensures pre.1;
+      };
+    }

@@ -32,7 +32,13 @@ overflow_add-high c = omega (arith, third_most (goal.at.overflow_add-high c).Aft
 
 pub overflow_add-result : goal.overflow_add-result
 overflow_add-result c =
-    omega (arith, first_most (goal.at.overflow_add-result c).After-whole_product, second_most (goal.at.overflow_add-result c).After-whole_product-2, third_most (goal.at.overflow_add-result c).After-whole_product-3, fourth_most c)
+    omega (
+      arith,
+      first_most (goal.at.overflow_add-result c).After-whole_product,
+      second_most (goal.at.overflow_add-result c).After-whole_product-2,
+      third_most (goal.at.overflow_add-result c).After-whole_product-3,
+      fourth_most c,
+    )
 
 pub returns : goal.returns
 returns c =

@@ -30,7 +30,8 @@ fill-requires c =
 
 pub returns-in-Refused : goal.returns-in-Refused
 returns-in-Refused c =
-    let whole = refused_call _ _ (decided (goal.at.returns-in-Refused c).After-two_checked-numbers ∙ ap outcome c.in-Refused.is) in record { answer = whole.0; left = whole.1 }
+    let whole = refused_call _ _ (decided (goal.at.returns-in-Refused c).After-two_checked-numbers ∙ ap outcome c.in-Refused.is) in
+    record { answer = whole.0; left = whole.1 }
 
 pub returns-in-Done : goal.returns-in-Done
 returns-in-Done c =

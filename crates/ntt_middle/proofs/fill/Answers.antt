@@ -28,6 +28,7 @@ slice_bounds-x-end c = omega (arith, vector_fits (goal.at.slice_bounds-x-end c).
 pub correlate_stored-requires : goal.correlate_stored-requires
 correlate_stored-requires c =
     let pre = c.requires in
-    let table = array_front 3605 c.table_length-length.result (tables_fit (goal.at.correlate_stored-requires c).After-table_length-length) ∙ c.table_length-length.ensures in
+    let table = array_front 3605 c.table_length-length.result (tables_fit (goal.at.correlate_stored-requires c).After-table_length-length)
+    ∙ c.table_length-length.ensures in
     let long = array_front 3328 (length c.args.work.now) (vector_fits (goal.at.correlate_stored-requires c).After-table_length-length) in
     (pre.0, pre.1, pre.2, pre.3, table, omega (arith, long, pre.1.whole, third_size c.args.p))

@@ -28,15 +28,18 @@ returns-in_default c =
 pub checked-answer-requires : goal.checked-answer-requires
 checked-answer-requires c =
     let args = c.args in
-    let are = lengths_are args.set (length args.a.now) (length args.b.now) (length args.out.now) (length args.work.now) (passed (goal.at.checked-answer-requires c).In-Done) in (
+    let are = lengths_are args.set (length args.a.now) (length args.b.now) (length args.out.now) (length args.work.now)
+    (passed (goal.at.checked-answer-requires c).In-Done) in (
       listed_of args.set (omega (arith, are.0)) _ c.parameters_of-p.ensures,
       rw c.parameters_of-p.ensures
-          (lengths_passed args.set (length args.a.now) (length args.b.now) (length args.out.now) (length args.work.now) (passed (goal.at.checked-answer-requires c).In-Done)),
+          (lengths_passed args.set (length args.a.now) (length args.b.now) (length args.out.now) (length args.work.now)
+          (passed (goal.at.checked-answer-requires c).In-Done)),
     )
 
 pub returns : goal.returns
 returns c =
     let args = c.args in
     let made = c.checked-answer in
-    let left = rw c.parameters_of-p.ensures at made.ensures in let whole = numbers_decide args.set args.a.now args.b.now args.out.now args.work.now (passed (goal.at.returns c).In-Done)
+    let left = rw c.parameters_of-p.ensures at made.ensures in
+    let whole = numbers_decide args.set args.a.now args.b.now args.out.now args.work.now (passed (goal.at.returns c).In-Done)
     left.answer left.left c.clear.ensures made.auto.work in record { answer = whole.0; left = whole.1.0; cleared = whole.1.1 }

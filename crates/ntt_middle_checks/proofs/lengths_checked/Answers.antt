@@ -19,7 +19,9 @@ pub returns-then-set-gt-LAST : goal.returns-then-set-gt-LAST
 returns-then-set-gt-LAST c = sym (checked_set _ _ _ _ _ accepted c.if-set-gt-LAST.true)
 
 pub returns-then-not-lengths_fit : goal.returns-then-not-lengths_fit
-returns-then-not-lengths_fit c = sym (checked_shape _ _ _ _ _ accepted c.if-set-gt-LAST.false (sym (shape (goal.at.returns-then-not-lengths_fit c).After-lengths_fit) ∙ c.if-not-lengths_fit.true))
+returns-then-not-lengths_fit c =
+    sym (checked_shape _ _ _ _ _ accepted c.if-set-gt-LAST.false (sym (shape (goal.at.returns-then-not-lengths_fit c).After-lengths_fit)
+    ∙ c.if-not-lengths_fit.true))
 
 pub returns-then-size-b : goal.returns-then-size-b
 returns-then-size-b c =

@@ -40,7 +40,8 @@ number c =
 pub returns-in_default : goal.returns-in_default
 unfolding partial_left
 returns-in_default c =
-    let told = ap outcome c.in_default.is in rw told (let whole = refused_call _ _ (sym c.checked-answer.ensures ∙ told) in record { answer = whole.0; left = whole.1 })
+    let told = ap outcome c.in_default.is in
+    rw told (let whole = refused_call _ _ (sym c.checked-answer.ensures ∙ told) in record { answer = whole.0; left = whole.1 })
 
 pub size_number-i-requires : goal.size_number-i-requires
 size_number-i-requires c =
@@ -56,7 +57,9 @@ pub returns-then-row-eq256 : goal.returns-then-row-eq256
 unfolding partial_left
 returns-then-row-eq256 c =
     let made = call (goal.at.returns-then-row-eq256 c).In-Done in
-    let sent = rw (number (goal.at.returns-then-row-eq256 c).After-size_number-i, c.parameters_of-p.ensures) at c.forward_wide.ensures in let whole = accepted_call _ _ (checks (goal.at.returns-then-row-eq256 c).In-Done) (sent ∙ wide_sent made c.if-row-eq256.true) in record { answer = whole.0; left = whole.1 }
+    let sent = rw (number (goal.at.returns-then-row-eq256 c).After-size_number-i, c.parameters_of-p.ensures) at c.forward_wide.ensures in
+    let whole = accepted_call _ _ (checks (goal.at.returns-then-row-eq256 c).In-Done) (sent ∙ wide_sent made c.if-row-eq256.true) in
+    record { answer = whole.0; left = whole.1 }
 
 pub forward_plain-requires : goal.forward_plain-requires
 forward_plain-requires c =
@@ -66,4 +69,5 @@ forward_plain-requires c =
 pub returns : goal.returns
 unfolding partial_left partial_sent
 returns c =
-    let whole = accepted_call _ _ (checks (goal.at.returns c).In-Done) (rw (number (goal.at.returns c).After-size_number-i, c.parameters_of-p.ensures) at c.forward_plain.ensures) in record { answer = whole.0; left = whole.1 }
+    let whole = accepted_call _ _ (checks (goal.at.returns c).In-Done) (rw (number (goal.at.returns c).After-size_number-i, c.parameters_of-p.ensures) at
+    c.forward_plain.ensures) in record { answer = whole.0; left = whole.1 }

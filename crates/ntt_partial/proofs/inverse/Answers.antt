@@ -43,7 +43,8 @@ number c =
 pub returns-in_default : goal.returns-in_default
 unfolding partial_inverse_left
 returns-in_default c =
-    let told = ap outcome c.in_default.is in rw told (let whole = refused_call _ _ (sym c.checked-answer.ensures ∙ told) in record { answer = whole.0; left = whole.1 })
+    let told = ap outcome c.in_default.is in
+    rw told (let whole = refused_call _ _ (sym c.checked-answer.ensures ∙ told) in record { answer = whole.0; left = whole.1 })
 
 pub size_number-i-requires : goal.size_number-i-requires
 size_number-i-requires c =
@@ -85,7 +86,9 @@ returns-then-row-eq256 c =
     let args = c.args in
     let made = call (goal.at.returns-then-row-eq256 c).In-Done in
     let recovered = rw (number (goal.at.returns-then-row-eq256 c).After-size_number-i, c.parameters_of-p.ensures) at c.inverse_wide.ensures in
-    let whole = recovered ∙ wide_recovered made c.if-row-eq256.true in let whole = accepted_call _ _ (checks (goal.at.returns-then-row-eq256 c).In-Done) (rw (end (goal.at.returns-then-row-eq256 c).After-size_number-i) (ap (λ (l : List ℕ). l ++ drop (args.m * args.row) args.out.now) whole)) in record { answer = whole.0; left = whole.1 }
+    let whole = recovered ∙ wide_recovered made c.if-row-eq256.true in
+    let whole = accepted_call _ _ (checks (goal.at.returns-then-row-eq256 c).In-Done) (rw (end (goal.at.returns-then-row-eq256 c).After-size_number-i)
+    (ap (λ (l : List ℕ). l ++ drop (args.m * args.row) args.out.now) whole)) in record { answer = whole.0; left = whole.1 }
 
 pub slice_bounds-inverse_plain-end : goal.slice_bounds-inverse_plain-end
 slice_bounds-inverse_plain-end c = rows (goal.at.slice_bounds-inverse_plain-end c).After-size_number-i
@@ -93,10 +96,16 @@ slice_bounds-inverse_plain-end c = rows (goal.at.slice_bounds-inverse_plain-end 
 pub inverse_plain-requires : goal.inverse_plain-requires
 inverse_plain-requires c =
     let made = call (goal.at.inverse_plain-requires c).In-Done in
-    rw (number (goal.at.inverse_plain-requires c).After-size_number-i, c.parameters_of-p.ensures) (listed_set _ made.low, made.split, lent (goal.at.inverse_plain-requires c).After-size_number-i)
+    rw (number (goal.at.inverse_plain-requires c).After-size_number-i, c.parameters_of-p.ensures) (
+      listed_set _ made.low,
+      made.split,
+      lent (goal.at.inverse_plain-requires c).After-size_number-i,
+    )
 
 pub returns : goal.returns
 unfolding partial_inverse_left partial_recovered
 returns c =
     let args = c.args in
-    let recovered = rw (number (goal.at.returns c).After-size_number-i, c.parameters_of-p.ensures) at c.inverse_plain.ensures in let whole = accepted_call _ _ (checks (goal.at.returns c).In-Done) (rw (end (goal.at.returns c).After-size_number-i) (ap (λ (l : List ℕ). l ++ drop (args.m * args.row) args.out.now) recovered)) in record { answer = whole.0; left = whole.1 }
+    let recovered = rw (number (goal.at.returns c).After-size_number-i, c.parameters_of-p.ensures) at c.inverse_plain.ensures in
+    let whole = accepted_call _ _ (checks (goal.at.returns c).In-Done) (rw (end (goal.at.returns c).After-size_number-i)
+    (ap (λ (l : List ℕ). l ++ drop (args.m * args.row) args.out.now) recovered)) in record { answer = whole.0; left = whole.1 }

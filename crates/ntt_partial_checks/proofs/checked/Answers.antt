@@ -61,7 +61,8 @@ returns-then-size_number-eq0 c =
       le-ltb last_set args.set (omega arith),
       le-ltb args.m 1 (omega arith),
       le-ltb args.rows args.m (omega arith),
-      eq-eqb (size_number_of (set_of args.set) (args.rows * args.row)) 0 (sym (number (goal.at.returns-then-size_number-eq0 c).After-size_number) ∙ c.if-size_number-eq0.true),
+      eq-eqb (size_number_of (set_of args.set) (args.rows * args.row)) 0 (sym (number (goal.at.returns-then-size_number-eq0 c).After-size_number)
+          ∙ c.if-size_number-eq0.true),
     )
 
 -- the size is small
@@ -83,7 +84,8 @@ returns-then-input-size c =
       le-ltb last_set args.set (omega arith),
       le-ltb args.m 1 (omega arith),
       le-ltb args.rows args.m (omega arith),
-      ne_eqb (size_number_of (set_of args.set) (args.rows * args.row)) 0 (λ e. c.if-size_number-eq0.false (number (goal.at.returns-then-input-size c).After-size_number ∙ e)),
+      ne_eqb (size_number_of (set_of args.set) (args.rows * args.row)) 0
+          (λ e. c.if-size_number-eq0.false (number (goal.at.returns-then-input-size c).After-size_number ∙ e)),
       ne_eqb (length args.input.now) (args.rows * args.row) c.if-input-size.true,
     )
 
@@ -96,7 +98,8 @@ returns-then-places-size c =
       le-ltb last_set args.set (omega arith),
       le-ltb args.m 1 (omega arith),
       le-ltb args.rows args.m (omega arith),
-      ne_eqb (size_number_of (set_of args.set) (args.rows * args.row)) 0 (λ e. c.if-size_number-eq0.false (number (goal.at.returns-then-places-size c).After-size_number ∙ e)),
+      ne_eqb (size_number_of (set_of args.set) (args.rows * args.row)) 0
+          (λ e. c.if-size_number-eq0.false (number (goal.at.returns-then-places-size c).After-size_number ∙ e)),
       eq-eqb (length args.input.now) (args.rows * args.row) c.if-input-size.false,
       ne_eqb args.places (args.rows * args.row) c.if-places-size.true,
     )

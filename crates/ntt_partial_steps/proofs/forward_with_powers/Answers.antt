@@ -38,8 +38,13 @@ pub forward-requires : goal.forward-requires
 forward-requires c =
     let split = c.requires.1 in
     let end : c.args.m * c.args.row - 0 ≡ c.args.m * c.args.row = omega arith in
-    rw end
-    (plain_front c.requires.0 split _ (table (goal.at.forward-requires c).After-load_powers), front_length c.requires.0 split, split.within, long (goal.at.forward-requires c).After-load_powers, c.requires.2 ∙ sym (long (goal.at.forward-requires c).After-load_powers))
+    rw end (
+      plain_front c.requires.0 split _ (table (goal.at.forward-requires c).After-load_powers),
+      front_length c.requires.0 split,
+      split.within,
+      long (goal.at.forward-requires c).After-load_powers,
+      c.requires.2 ∙ sym (long (goal.at.forward-requires c).After-load_powers),
+    )
 
 pub returns : goal.returns
 returns c =

@@ -39,7 +39,8 @@ loop-j-preserved c =
     filled_more 0 this.invariant (turn_below (goal.at.loop-j-preserved c).In-loop-j) (sym (zero-add this.j))
     (c.add.ensures
     ∙ rw (ahead this.invariant, c.settle_number-product.ensures)
-    (sym (accumulated_scaled args.q args.total.now args.x.now args.y.now this.j (turn_below (goal.at.loop-j-preserved c).In-loop-j) (turn_inside (goal.at.loop-j-preserved c).In-loop-j))))
+    (sym (accumulated_scaled args.q args.total.now args.x.now args.y.now this.j (turn_below (goal.at.loop-j-preserved c).In-loop-j)
+    (turn_inside (goal.at.loop-j-preserved c).In-loop-j))))
 
 pub returns : goal.returns
 returns c = filled_whole c.loop-j.invariant refl (omega (arith, c.loop-j-test.false, c.loop-j.invariant.kept_length))

@@ -36,9 +36,11 @@ fill_tables-requires c =
     rw c.rows_of.ensures (
       sizes p c.requires.0 i,
       rw (size_rows p c.requires.0 i)
-          (front_length c.load_inverse_powers.new.out c.args.out.now c.transform_size-size.result (long (goal.at.fill_tables-requires c).After-load_inverse_powers ∙ sym (size_is (goal.at.fill_tables-requires c).After-transform_size-size))
+          (front_length c.load_inverse_powers.new.out c.args.out.now c.transform_size-size.result
+          (long (goal.at.fill_tables-requires c).After-load_inverse_powers ∙ sym (size_is (goal.at.fill_tables-requires c).After-transform_size-size))
           c.requires.1 (omega (arith, size_is (goal.at.fill_tables-requires c).After-transform_size-size))),
-      inverse_powers_below p c.requires.0 i (front_region _ _ _ (long (goal.at.fill_tables-requires c).After-load_inverse_powers) ∙ c.load_inverse_powers.ensures),
+      inverse_powers_below p c.requires.0 i (front_region _ _ _ (long (goal.at.fill_tables-requires c).After-load_inverse_powers)
+          ∙ c.load_inverse_powers.ensures),
     )
 
 pub returns : goal.returns
@@ -48,5 +50,7 @@ returns c =
     let made = rw c.rows_of.ensures at c.fill_tables.ensures in
     record {
       lent = made.lent;
-      root = made.tables _ (inverse_ordered p c.requires.0 i (front_region _ _ _ (long (goal.at.returns c).After-load_inverse_powers) ∙ c.load_inverse_powers.ensures));
+      root =
+          made.tables _ (inverse_ordered p c.requires.0 i (front_region _ _ _ (long (goal.at.returns c).After-load_inverse_powers)
+          ∙ c.load_inverse_powers.ensures));
     }

@@ -36,7 +36,8 @@ fill_tables-requires c =
     rw c.rows_of.ensures (
       sizes p c.requires.0 i,
       rw (size_rows p c.requires.0 i)
-          (front_length c.load_powers.new.out c.args.out.now c.transform_size-size.result (long (goal.at.fill_tables-requires c).After-load_powers ∙ sym (size_is (goal.at.fill_tables-requires c).After-transform_size-size))
+          (front_length c.load_powers.new.out c.args.out.now c.transform_size-size.result (long (goal.at.fill_tables-requires c).After-load_powers ∙ sym
+          (size_is (goal.at.fill_tables-requires c).After-transform_size-size))
           c.requires.1 (omega (arith, size_is (goal.at.fill_tables-requires c).After-transform_size-size))),
       root_below p c.requires.0 i (front_region _ _ _ (long (goal.at.fill_tables-requires c).After-load_powers) ∙ c.load_powers.ensures),
     )

@@ -34,7 +34,8 @@ returns-then-not-size_within c =
     (λ h. sym (tested (goal.at.returns-then-not-size_within c).After-size_within) ∙ c.if-not-size_within.true)
 
 pub loop-i-preserved : goal.loop-i-preserved
-loop-i-preserved c = (search rules, below_more _ _ c.loop-i.invariant.1 (sym (tested (goal.at.loop-i-preserved c).After-size_within) ∙ c.if-not-size_within.false))
+loop-i-preserved c =
+    (search rules, below_more _ _ c.loop-i.invariant.1 (sym (tested (goal.at.loop-i-preserved c).After-size_within) ∙ c.if-not-size_within.false))
 
 pub returns : goal.returns
 returns c =

@@ -90,4 +90,5 @@ returns c =
     let place = c.product_place-product in
     c.add.ensures
     ∙ key_sum args.p args.a.now args.s.now args.e.now c.requires.1.public.size args.l from.result _ place.result
-    c.of_signed-error.result (inside (goal.at.returns c).Start) (omega (arith, c.requires.0.some_d)) from.ensures refl place.ensures (error (goal.at.returns c).After-of_signed-error)
+    c.of_signed-error.result (inside (goal.at.returns c).Start) (omega (arith, c.requires.0.some_d)) from.ensures refl place.ensures
+    (error (goal.at.returns c).After-of_signed-error)

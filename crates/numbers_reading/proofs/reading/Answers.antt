@@ -84,7 +84,8 @@ fill-requires c =
 pub returns-in-Refused : goal.returns-in-Refused
 unfolding reading_left
 returns-in-Refused c =
-    let whole = refused_call _ _ (decided (goal.at.returns-in-Refused c).After-numbers_checked-checked ∙ ap outcome c.in-Refused.is) in record { answer = whole.0; left = whole.1 }
+    let whole = refused_call _ _ (decided (goal.at.returns-in-Refused c).After-numbers_checked-checked ∙ ap outcome c.in-Refused.is) in
+    record { answer = whole.0; left = whole.1 }
 
 pub returns-in-Done : goal.returns-in-Done
 unfolding reading_left

@@ -34,7 +34,8 @@ pub returns-then-not-lengths_fit : goal.returns-then-not-lengths_fit
 unfolding sealing_answer first_part_left second_part_left
 returns-then-not-lengths_fit c =
     let other = rw c.parameters_of-p.ensures at (sym c.lengths_fit.ensures ∙ c.if-not-lengths_fit.true) in
-    let no = opening_lengths _ _ 2 _ c.if-set-gt-LAST.false other in record { answer = sym no; first = sym (leaves_refused _ _ no); second = sym (leaves_refused _ _ no) }
+    let no = opening_lengths _ _ 2 _ c.if-set-gt-LAST.false other in
+    record { answer = sym no; first = sym (leaves_refused _ _ no); second = sym (leaves_refused _ _ no) }
 
 -- where the lengths fit
 lengths : (c : Else-not-lengths_fit)
@@ -95,11 +96,13 @@ fill_both-requires c =
 pub returns-in-Refused : goal.returns-in-Refused
 unfolding first_part_left second_part_left
 returns-in-Refused c =
-    let no = decided (goal.at.returns-in-Refused c).After-numbers_checked-checked ∙ ap outcome c.in-Refused.is in record { answer = sym no; first = sym (leaves_refused _ _ no); second = sym (leaves_refused _ _ no) }
+    let no = decided (goal.at.returns-in-Refused c).After-numbers_checked-checked ∙ ap outcome c.in-Refused.is in
+    record { answer = sym no; first = sym (leaves_refused _ _ no); second = sym (leaves_refused _ _ no) }
 
 pub returns-in-Done : goal.returns-in-Done
 unfolding first_part_left second_part_left
 returns-in-Done c =
     let yes = decided (goal.at.returns-in-Done c).After-numbers_checked-checked ∙ ap outcome c.in-Done.is in
     let same = c.parameters_of-p.ensures in
-    let written = c.fill_both.ensures in record { answer = sym yes; first = written.0 ∙ rw same (sym (leaves_accepted _ _ yes)); second = written.1 ∙ rw same (sym (leaves_accepted _ _ yes)) }
+    let written = c.fill_both.ensures in
+    record { answer = sym yes; first = written.0 ∙ rw same (sym (leaves_accepted _ _ yes)); second = written.1 ∙ rw same (sym (leaves_accepted _ _ yes)) }

@@ -10,7 +10,8 @@ use Rattle.packing.proofs.pack_dropping.Given as goal
 
 abbrev pub invariant-loop-j : goal.invariant-loop-j
 invariant-loop-j l =
-    Position (l.width - l.cmp) 8 l.i l.bit l.j × Filled l.initial.out 0 (length l.initial.out) (pack_dropping_of l.width l.cmp (length l.initial.out) l.numbers) l.j l.out
+    Position (l.width - l.cmp) 8 l.i l.bit l.j × Filled l.initial.out 0 (length l.initial.out) (pack_dropping_of l.width l.cmp (length l.initial.out)
+    l.numbers) l.j l.out
 
 abbrev pub decreases-loop-j : goal.decreases-loop-j
 decreases-loop-j l = length l.initial.out - l.j

@@ -9,7 +9,8 @@ use Rattle.packing.proofs.pack_words.Given as goal
 
 abbrev pub invariant-loop-j : goal.invariant-loop-j
 invariant-loop-j l =
-    (l.bits < 32) × Held (l.width - l.cmp) (high_parts l.cmp l.numbers) l.i l.bits l.j l.held × Filled l.initial.out 0 (length l.initial.out) (pack_dropping_of l.width l.cmp (length l.initial.out) l.numbers) l.j l.out
+    (l.bits < 32) × Held (l.width - l.cmp) (high_parts l.cmp l.numbers) l.i l.bits l.j l.held × Filled l.initial.out 0 (length l.initial.out)
+    (pack_dropping_of l.width l.cmp (length l.initial.out) l.numbers) l.j l.out
 
 abbrev pub decreases-loop-j : goal.decreases-loop-j
 decreases-loop-j l = 64 * (length l.initial.out - l.j) + (32 - l.bits)

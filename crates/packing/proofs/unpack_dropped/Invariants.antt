@@ -10,7 +10,8 @@ use Rattle.packing.proofs.unpack_dropped.Given as goal
 
 abbrev pub invariant-loop-i : goal.invariant-loop-i
 invariant-loop-i l =
-    Position 8 (l.width - l.cmp) l.j l.bit l.i × Filled l.initial.out 0 (length l.initial.out) (unpack_dropped_of l.width l.cmp (length l.initial.out) l.bytes) l.i l.out
+    Position 8 (l.width - l.cmp) l.j l.bit l.i × Filled l.initial.out 0 (length l.initial.out) (unpack_dropped_of l.width l.cmp (length l.initial.out) l.bytes)
+    l.i l.out
 
 abbrev pub decreases-loop-i : goal.decreases-loop-i
 decreases-loop-i l = length l.initial.out - l.i

@@ -10,4 +10,5 @@ pub errors_with_buffers-requires : goal.errors_with_buffers-requires
 errors_with_buffers-requires c =
     let size = c.error_draw_bytes-size in
     let pre = c.requires in
-    let bytes = array_front 10240 size.result (omega (arith, size.ensures, pre.rules.1.most_error_bytes)) ∙ size.ensures in record { rules = (pre.rules.0, pre.rules.1, pre.rules.2, pre.p_bound); bytes_len = (bytes, pre.rules.3) }
+    let bytes = array_front 10240 size.result (omega (arith, size.ensures, pre.rules.1.most_error_bytes)) ∙ size.ensures in
+    record { rules = (pre.rules.0, pre.rules.1, pre.rules.2, pre.p_bound); bytes_len = (bytes, pre.rules.3) }

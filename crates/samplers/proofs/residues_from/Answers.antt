@@ -10,4 +10,5 @@ residues_with_buffers-requires c =
 
 pub returns : goal.returns
 returns c =
-    let whole = rw (array_front 10158 c.args.size c.requires.rules.3) at c.residues_with_buffers.ensures in record { answer = whole.answer; result = whole.result }
+    let whole = rw (array_front 10158 c.args.size c.requires.rules.3) at c.residues_with_buffers.ensures in
+    record { answer = whole.answer; result = whole.result }

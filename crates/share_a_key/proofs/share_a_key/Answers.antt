@@ -23,14 +23,36 @@ unfolding is_exchange share_a_key_checked
 returns-in_default c =
     let args = c.args in let whole = checks_refuse args.set args.seed.now args.message.now args.public.now args.secret.now args.sealed.now
     args.sent.now args.received.now args.work.now
-    c.round_trip_checked-checked.ensures (ap outcome c.in_default.is) in record { answer = whole.0; given = whole.1.0; kept = whole.1.1.0; closed = whole.1.1.1.0; agreed = whole.1.1.1.1.0; opened = whole.1.1.1.1.1.0; cleared = whole.1.1.1.1.1.1.0; claim = whole.1.1.1.1.1.1.1 }
+    c.round_trip_checked-checked.ensures (ap outcome c.in_default.is) in
+    record {
+      answer = whole.0;
+      given = whole.1.0;
+      kept = whole.1.1.0;
+      closed = whole.1.1.1.0;
+      agreed = whole.1.1.1.1.0;
+      opened = whole.1.1.1.1.1.0;
+      cleared = whole.1.1.1.1.1.1.0;
+      claim = whole.1.1.1.1.1.1.1;
+    }
 
 -- a draw of the key is refused
 pub returns-in_default-made : goal.returns-in_default-made
 returns-in_default-made c =
     let args = c.args in let whole = key_refuses args.set args.seed.now args.message.now args.public.now args.secret.now args.sealed.now
     args.sent.now args.received.now args.work.now
-    (passed (goal.at.returns-in_default-made c).In-Done) (ap outcome c.in_default-made.is) (c.key-made.ensures.answer, (c.key-made.ensures.given, (c.key-made.ensures.kept, c.key-made.ensures.cleared))) in record { answer = whole.0; given = whole.1.0; kept = whole.1.1.0; closed = whole.1.1.1.0; agreed = whole.1.1.1.1.0; opened = whole.1.1.1.1.1.0; cleared = whole.1.1.1.1.1.1.0; claim = whole.1.1.1.1.1.1.1 }
+    (passed (goal.at.returns-in_default-made c).In-Done) (ap outcome c.in_default-made.is) (
+      c.key-made.ensures.answer,
+      (c.key-made.ensures.given, (c.key-made.ensures.kept, c.key-made.ensures.cleared)),
+    ) in record {
+      answer = whole.0;
+      given = whole.1.0;
+      kept = whole.1.1.0;
+      closed = whole.1.1.1.0;
+      agreed = whole.1.1.1.1.0;
+      opened = whole.1.1.1.1.1.0;
+      cleared = whole.1.1.1.1.1.1.0;
+      claim = whole.1.1.1.1.1.1.1;
+    }
 
 -- all three calls are accepted
 pub returns : goal.returns
@@ -38,6 +60,19 @@ returns c =
     let args = c.args in
     let bytes = c.shared_slice_known-2-1.given in let whole = all_accept args.set args.seed.now args.message.now args.public.now args.secret.now args.sealed.now
     args.sent.now args.received.now args.work.now
-    (passed (goal.at.returns c).In-Done) _ _ _ (sym (ap outcome c.in-Done-made.is) ∙ c.key-made.ensures.answer, (c.key-made.ensures.given, (c.key-made.ensures.kept, c.key-made.ensures.cleared))) (λ k. (bytes k).fits)
+    (passed (goal.at.returns c).In-Done) _ _ _ (
+      sym (ap outcome c.in-Done-made.is) ∙ c.key-made.ensures.answer,
+      (c.key-made.ensures.given, (c.key-made.ensures.kept, c.key-made.ensures.cleared)),
+    ) (λ k. (bytes k).fits)
     _ _ _ (c.encapsulate.ensures.given, (c.encapsulate.ensures.agreed, c.encapsulate.ensures.cleared))
-    (c.decapsulate.ensures.answer, (c.decapsulate.ensures.agreed, c.decapsulate.ensures.cleared)) in record { answer = whole.0; given = whole.1.0; kept = whole.1.1.0; closed = whole.1.1.1.0; agreed = whole.1.1.1.1.0; opened = whole.1.1.1.1.1.0; cleared = whole.1.1.1.1.1.1.0; claim = whole.1.1.1.1.1.1.1 }
+    (c.decapsulate.ensures.answer, (c.decapsulate.ensures.agreed, c.decapsulate.ensures.cleared)) in
+    record {
+      answer = whole.0;
+      given = whole.1.0;
+      kept = whole.1.1.0;
+      closed = whole.1.1.1.0;
+      agreed = whole.1.1.1.1.0;
+      opened = whole.1.1.1.1.1.0;
+      cleared = whole.1.1.1.1.1.1.0;
+      claim = whole.1.1.1.1.1.1.1;
+    }

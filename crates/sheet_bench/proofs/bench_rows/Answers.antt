@@ -7,7 +7,8 @@ use Rattle.sheet_bench.proofs.bench_rows.Goals as goal
 
 pub returns-then-place-input : goal.returns-then-place-input
 returns-then-place-input c =
-    let e = rows_refused c.args.input.now c.first_unfit-place.result c.first_unfit-place.ensures c.if-place-input.true in record { answer = sym e; noises = sym (leaves_refused _ _ e); bits = sym (leaves_refused _ _ e); reading = sym (leaves_refused _ _ e) }
+    let e = rows_refused c.args.input.now c.first_unfit-place.result c.first_unfit-place.ensures c.if-place-input.true in
+    record { answer = sym e; noises = sym (leaves_refused _ _ e); bits = sym (leaves_refused _ _ e); reading = sym (leaves_refused _ _ e) }
 
 pub fill-requires : goal.fill-requires
 fill-requires c = (
@@ -23,4 +24,11 @@ pub returns : goal.returns
 returns c =
     let input = c.args.input.now in
     let e = rows_accepted input c.first_unfit-place.result c.first_unfit-place.ensures c.if-place-input.false in
-    let rows = c.fill.ensures in record { answer = sym e; noises = rows.0 ∙ sym (leaves_accepted _ _ e); bits = rows.1 ∙ sym (leaves_accepted _ _ e); reading = rows.2 ∙ sym (leaves_accepted _ _ e) }
+    let rows = c.fill.ensures in
+    record {
+      answer = sym e;
+      noises = rows.0 ∙ sym (leaves_accepted _ _ e);
+      bits = rows.1 ∙ sym (leaves_accepted _ _ e);
+      reading = rows.2 ∙ sym
+          (leaves_accepted _ _ e);
+    }

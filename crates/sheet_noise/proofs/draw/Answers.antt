@@ -50,13 +50,15 @@ pub slice_bounds-multipliers_from-end : goal.slice_bounds-multipliers_from-end
 slice_bounds-multipliers_from-end c = omega (arith, c.draw_errors.auto.work, fits (goal.at.slice_bounds-multipliers_from-end c).After-multiplier_count)
 
 -- the part of the multipliers
-part_size : (c : After-draw_errors) → let from = errors (goal.at.After-draw_errors c).After-multiplier_count in let count = multipliers (goal.at.After-draw_errors c).After-multiplier_count in
+part_size : (c : After-draw_errors) → let from = errors (goal.at.After-draw_errors c).After-multiplier_count in
+    let count = multipliers (goal.at.After-draw_errors c).After-multiplier_count in
     length (take (from + count - from) (drop from c.draw_errors.new.work)) ≡ count
 part_size c =
     let from = errors (goal.at.After-draw_errors c).After-multiplier_count in
     let count = multipliers (goal.at.After-draw_errors c).After-multiplier_count in
     let left : from + count - from ≡ count = omega arith in
-    part_long c.draw_errors.new.work from (from + count) (omega (arith, c.draw_errors.auto.work, fits (goal.at.After-draw_errors c).After-multiplier_count)) ∙ left
+    part_long c.draw_errors.new.work from (from + count) (omega (arith, c.draw_errors.auto.work, fits (goal.at.After-draw_errors c).After-multiplier_count))
+    ∙ left
 
 pub multipliers_from-requires : goal.multipliers_from-requires
 multipliers_from-requires c = (
@@ -72,6 +74,7 @@ returns c =
     let sealing = c.args.sealing.now in
     multipliers_written c.args.p c.args.secret.now sealing _ made.new.out (errors (goal.at.returns c).After-multiplier_count)
     (errors (goal.at.returns c).After-multiplier_count + multipliers (goal.at.returns c).After-multiplier_count)
-    (start_is (goal.at.returns c).After-multiplier_count) (omega (arith, count_is (goal.at.returns c).After-multiplier_count)) (made.auto.out ∙ part_size (goal.at.returns c).After-draw_errors ∙ count_is (goal.at.returns c).After-multiplier_count)
+    (start_is (goal.at.returns c).After-multiplier_count) (omega (arith, count_is (goal.at.returns c).After-multiplier_count))
+    (made.auto.out ∙ part_size (goal.at.returns c).After-draw_errors ∙ count_is (goal.at.returns c).After-multiplier_count)
     (omega (arith, c.draw_errors.auto.work, fits (goal.at.returns c).After-multiplier_count)) c.draw_errors.ensures
     made.ensures

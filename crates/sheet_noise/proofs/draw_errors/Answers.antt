@@ -34,7 +34,8 @@ work c = c.args.work.now
 abbrev work_after : After-residues_from → List ℕ
 work_after c =
     take 0 (work (goal.at.After-residues_from c).After-error_count-count)
-    ++ (c.residues_from.new.out ++ drop ((p (goal.at.After-residues_from c).After-error_count-count).d3 - 0) (drop 0 (work (goal.at.After-residues_from c).After-error_count-count)))
+    ++ (c.residues_from.new.out ++ drop ((p (goal.at.After-residues_from c).After-error_count-count).d3 - 0)
+    (drop 0 (work (goal.at.After-residues_from c).After-error_count-count)))
 
 pub error_count-count-requires : goal.error_count-count-requires
 error_count-count-requires c = listed_rules c.args.p c.requires.1
@@ -58,7 +59,14 @@ slice_bounds-residues_from-end c = omega (arith, secret_fits c)
 
 pub residues_from-requires : goal.residues_from-requires
 residues_from-requires c =
-    let all = kept (goal.at.residues_from-requires c).After-error_count-count in record { rules = (all, omega (arith, c.requires.2), c.requires.0.some_bytpcs, c.requires.0.most_bytpcs); out_nonzero = (omega (arith, secret_part (goal.at.residues_from-requires c).After-error_count-count, all.some_n, all.some_d, all.some_k, all.holds3), omega (arith, secret_part (goal.at.residues_from-requires c).After-error_count-count, all.most_d3)) }
+    let all = kept (goal.at.residues_from-requires c).After-error_count-count in
+    record {
+      rules = (all, omega (arith, c.requires.2), c.requires.0.some_bytpcs, c.requires.0.most_bytpcs);
+      out_nonzero = (
+        omega (arith, secret_part (goal.at.residues_from-requires c).After-error_count-count, all.some_n, all.some_d, all.some_k, all.holds3),
+        omega (arith, secret_part (goal.at.residues_from-requires c).After-error_count-count, all.most_d3),
+      );
+    }
 
 pub returns-in_default : goal.returns-in_default
 returns-in_default c =
@@ -78,21 +86,44 @@ state_is c =
 -- the work slice keeps its length
 kept_length : (c : After-residues_from) → length (work_after c) ≡ length (work (goal.at.After-residues_from c).After-error_count-count)
 kept_length c =
-    back_length (work (goal.at.After-residues_from c).After-error_count-count) c.residues_from.new.out (p (goal.at.After-residues_from c).After-error_count-count).d3
-    (c.residues_from.auto.out ∙ secret_part (goal.at.After-residues_from c).After-error_count-count) (secret_fits (goal.at.After-residues_from c).After-error_count-count)
+    back_length (work (goal.at.After-residues_from c).After-error_count-count) c.residues_from.new.out
+    (p (goal.at.After-residues_from c).After-error_count-count).d3
+    (c.residues_from.auto.out ∙ secret_part (goal.at.After-residues_from c).After-error_count-count)
+    (secret_fits (goal.at.After-residues_from c).After-error_count-count)
 
 pub slice_bounds-errors_from-end : goal.slice_bounds-errors_from-end
-slice_bounds-errors_from-end c = omega (arith, kept_length (goal.at.slice_bounds-errors_from-end c).After-residues_from, errors_fit (goal.at.slice_bounds-errors_from-end c).After-error_count-count)
+slice_bounds-errors_from-end c =
+    omega (
+      arith,
+      kept_length (goal.at.slice_bounds-errors_from-end c).After-residues_from,
+      errors_fit (goal.at.slice_bounds-errors_from-end c).After-error_count-count,
+    )
 
 -- the part of the errors
 errors_size : (c : After-residues_from)
     → length (take (c.error_count-count.result - 0) (drop 0 (work_after c))) ≡ c.error_count-count.result
-errors_size c = front_length (work_after c) c.error_count-count.result (omega (arith, kept_length c, errors_fit (goal.at.After-residues_from c).After-error_count-count))
+errors_size c =
+    front_length (work_after c) c.error_count-count.result (omega (arith, kept_length c, errors_fit (goal.at.After-residues_from c).After-error_count-count))
 
 pub errors_from-requires : goal.errors_from-requires
 errors_from-requires c =
-    let small = secret_state_small (p (goal.at.errors_from-requires c).After-error_count-count) (kept (goal.at.errors_from-requires c).After-error_count-count) c.requires.0 c.args.secret.now in
-    let counter = ap (λ (s : State). s.counter) (state_is (goal.at.errors_from-requires c).In-Counter) in record { rules = (kept (goal.at.errors_from-requires c).After-error_count-count, c.requires.0, omega (arith, c.requires.2), errors_size (goal.at.errors_from-requires c).After-residues_from ∙ c.error_count-count.ensures.0); p_bound = omega (arith, small, counter, c.requires.0.most_error_bytes) }
+    let small = secret_state_small (p (goal.at.errors_from-requires c).After-error_count-count) (kept (goal.at.errors_from-requires c).After-error_count-count)
+    c.requires.0 c.args.secret.now in
+    let counter = ap (λ (s : State). s.counter) (state_is (goal.at.errors_from-requires c).In-Counter) in
+    record {
+      rules = (
+        kept (goal.at.errors_from-requires c).After-error_count-count,
+        c.requires.0,
+        omega (arith, c.requires.2),
+        errors_size (goal.at.errors_from-requires c).After-residues_from ∙ c.error_count-count.ensures.0,
+      );
+      p_bound = omega (
+        arith,
+        small,
+        counter,
+        c.requires.0.most_error_bytes,
+      );
+    }
 
 pub returns : goal.returns
 unfolding errors

@@ -72,7 +72,8 @@ multipliers_are : (c : After-draw) → let p = c.args.p in
     lent_multipliers c ≡ map (residue p.q) (multipliers_drawn p c.args.sealing.now)
 multipliers_are c =
     multipliers_part c.args.p c.args.secret.now c.args.sealing.now _ c.draw.ensures (error_total (goal.at.After-draw c).After-multiplier_count)
-    (start_is (goal.at.After-draw c).After-multiplier_count) (multiplier_total (goal.at.After-draw c).After-multiplier_count) (count_is (goal.at.After-draw c).After-multiplier_count)
+    (start_is (goal.at.After-draw c).After-multiplier_count) (multiplier_total (goal.at.After-draw c).After-multiplier_count)
+    (count_is (goal.at.After-draw c).After-multiplier_count)
 
 errors_are : (c : After-draw) → let p = c.args.p in
     lent_errors c ≡ map (residue p.q) (errors p c.args.secret.now)
@@ -89,7 +90,9 @@ multipliers_size c =
     part_long c.draw.new.work from (from + count) (omega (arith, c.draw.auto.work, fits (goal.at.After-draw c).After-multiplier_count)) ∙ left
 
 errors_size : (c : After-draw) → length (lent_errors c) ≡ error_total (goal.at.After-draw c).After-multiplier_count
-errors_size c = front_length c.draw.new.work (error_total (goal.at.After-draw c).After-multiplier_count) (omega (arith, c.draw.auto.work, fits (goal.at.After-draw c).After-multiplier_count))
+errors_size c =
+    front_length c.draw.new.work (error_total (goal.at.After-draw c).After-multiplier_count)
+    (omega (arith, c.draw.auto.work, fits (goal.at.After-draw c).After-multiplier_count))
 
 pub fill-requires : goal.fill-requires
 fill-requires c =

@@ -32,7 +32,8 @@ bench_rows-requires c =
 pub returns-then-set-lt1 : goal.returns-then-set-lt1
 returns-then-set-lt1 c =
     let args = c.args in
-    let made = c.bench_rows.ensures in let whole = bench_filled args.set args.input.now _ args.noise.now _ args.sent.now _ args.read.now _ c.if-set-lt1.true c.requires.1
+    let made = c.bench_rows.ensures in
+    let whole = bench_filled args.set args.input.now _ args.noise.now _ args.sent.now _ args.read.now _ c.if-set-lt1.true c.requires.1
     made.answer made.noises made.bits made.reading in record { answer = whole.0; rows = whole.1 }
 
 pub work_length-size-requires : goal.work_length-size-requires

@@ -29,4 +29,5 @@ unfolding text.refused_text text.refused_word
 returns c =
     let all = written_append (written_append c.put_bytes-word.ensures c.put_number-first.ensures)
     c.put_number.ensures in
-    let fits = refused_length c.args.number c.args.place c.ranges.number.fits c.ranges.place.fits in record { value = all.after ∙ omega arith; out_after = all.written; upper_bound = omega (arith, all.after) }
+    let fits = refused_length c.args.number c.args.place c.ranges.number.fits c.ranges.place.fits in
+    record { value = all.after ∙ omega arith; out_after = all.written; upper_bound = omega (arith, all.after) }

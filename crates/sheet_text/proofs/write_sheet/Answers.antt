@@ -17,4 +17,5 @@ returns c =
     let fits = sheet_length c.args.noise.now c.args.sent.now c.args.read.now c.requires.0.sizes
     (λ k. (c.shared_slice_known-1.given k).fits)
     (λ k. (c.shared_slice_known-2-1.given k).fits) c.args.ceiling c.args.half
-    c.requires.1 c.ranges.ceiling.fits c.ranges.half.fits in record { value = omega (arith, written.after); out_after = written.written; upper_bound = omega (arith, written.after) }
+    c.requires.1 c.ranges.ceiling.fits c.ranges.half.fits in
+    record { value = omega (arith, written.after); out_after = written.written; upper_bound = omega (arith, written.after) }

@@ -23,7 +23,8 @@ loop-n-preserved c =
       λ first e.
           c.round-t.ensures
           ∙ ap (add_round_key (mix_columns (shift_rows (sub_bytes (columns now.s))))) key
-          ∙ ap (λ (s : List (List ℕ)). add_round_key (mix_columns (shift_rows (sub_bytes s))) (round_key_of (schedule keys) (now.n + 1))) (now.invariant.1 first e)
+          ∙ ap (λ (s : List (List ℕ)). add_round_key (mix_columns (shift_rows (sub_bytes s))) (round_key_of (schedule keys) (now.n + 1)))
+          (now.invariant.1 first e)
           ∙ rw (add-one now.n),
     )
 

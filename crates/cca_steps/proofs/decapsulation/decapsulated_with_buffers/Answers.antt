@@ -31,7 +31,9 @@ passed c = told (goal.at.Else-not-key_below c).After-key_below ∙ c.if-not-key_
 
 pub returns-then-not-key_below : goal.returns-then-not-key_below
 returns-then-not-key_below c =
-    let args = c.args in let whole = refused_call _ _ (numbers_refuse args.p args.secret.now (told (goal.at.returns-then-not-key_below c).After-key_below ∙ c.if-not-key_below.true)) in record { answer = whole.0; agreed = whole.1 }
+    let args = c.args in
+    let whole = refused_call _ _ (numbers_refuse args.p args.secret.now (told (goal.at.returns-then-not-key_below c).After-key_below
+    ∙ c.if-not-key_below.true)) in record { answer = whole.0; agreed = whole.1 }
 
 pub decrypt-answer-requires : goal.decrypt-answer-requires
 decrypt-answer-requires c =
@@ -41,7 +43,8 @@ pub returns-in_default : goal.returns-in_default
 returns-in_default c =
     let args = c.args in
     let refusal = ap outcome c.in_default.is in
-    let left = refused_call _ _ (draw_refuses args.p args.secret.now (passed (goal.at.returns-in_default c).Else-not-key_below) (sym c.decrypt-answer.ensures.answer ∙ refusal)) in record { answer = refusal ∙ left.0; agreed = left.1 }
+    let left = refused_call _ _ (draw_refuses args.p args.secret.now (passed (goal.at.returns-in_default c).Else-not-key_below)
+    (sym c.decrypt-answer.ensures.answer ∙ refusal)) in record { answer = refusal ∙ left.0; agreed = left.1 }
 
 pub key_of_message-requires : goal.key_of_message-requires
 key_of_message-requires c =
@@ -51,5 +54,7 @@ pub returns : goal.returns
 returns c =
     let args = c.args in
     let message = c.decrypt-answer.ensures in
-    let key = c.key_of_message.ensures in let whole = decapsulated_made args.p args.secret.now (passed (goal.at.returns c).Else-not-key_below) args.ciphertext.now _ args.message.now _ _ args.shared.now _
+    let key = c.key_of_message.ensures in
+    let whole = decapsulated_made args.p args.secret.now (passed (goal.at.returns c).Else-not-key_below) args.ciphertext.now _ args.message.now _ _
+    args.shared.now _
     (sym message.answer ∙ ap outcome c.in-Done.is) message.read message.halves key.answer key.agreed in record { answer = whole.0; agreed = whole.1 }

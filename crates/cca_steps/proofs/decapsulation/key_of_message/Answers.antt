@@ -23,7 +23,10 @@ answered c = c.encapsulate-answer.ensures.answer ∙ ap (encrypt_draws c.args.p)
 
 pub returns-in_default : goal.returns-in_default
 returns-in_default c =
-    record { answer = answered (goal.at.returns-in_default c).After-encapsulate-answer; agreed = sym (leaves_refused _ _ (sym (answered (goal.at.returns-in_default c).After-encapsulate-answer) ∙ ap outcome c.in_default.is)) }
+    record {
+      answer = answered (goal.at.returns-in_default c).After-encapsulate-answer;
+      agreed = sym (leaves_refused _ _ (sym (answered (goal.at.returns-in_default c).After-encapsulate-answer) ∙ ap outcome c.in_default.is));
+    }
 
 pub returns : goal.returns
 returns c =
@@ -32,4 +35,5 @@ returns c =
     let decided = sym (answered (goal.at.returns c).After-encapsulate-answer) ∙ ap outcome c.in-Done.is in
     let shared = shared_again p (drop 32 args.secret.now) _ args.message.now (drop 32 args.expanded.now) args.ciphertext.now _
     args.again.now _ _ args.shared.now _ (rest_whole args.secret.now 32) decided c.encapsulate-answer.ensures.given
-    c.same_bytes-agrees.ensures c.hashed_part-part.ensures.part c.shared_key_of.ensures in record { answer = answered (goal.at.returns c).After-encapsulate-answer; agreed = shared }
+    c.same_bytes-agrees.ensures c.hashed_part-part.ensures.part c.shared_key_of.ensures in
+    record { answer = answered (goal.at.returns c).After-encapsulate-answer; agreed = shared }

@@ -19,7 +19,8 @@ pub returns-in_default : goal.returns-in_default
 returns-in_default c =
     let old = c.args.ciphertext.now in
     let told = ap outcome c.in_default.is in
-    let left = front_refused old _ _ _ (length old - 32) (sym c.encrypt-answer.ensures.answer ∙ told) c.encrypt-answer.ensures.sealed in record { answer = told ∙ left.0; given = left.1 }
+    let left = front_refused old _ _ _ (length old - 32) (sym c.encrypt-answer.ensures.answer ∙ told) c.encrypt-answer.ensures.sealed in
+    record { answer = told ∙ left.0; given = left.1 }
 
 -- what encrypt wrote has the length of the part lent
 front_size : (c : After-encrypt-answer) → length c.encrypt-answer.new.ciphertext ≡ length c.args.ciphertext.now - 32
@@ -34,4 +35,5 @@ returns c =
     let old = args.ciphertext.now in
     let size : length old ≡ length old - 32 + 32 = omega (arith, c.requires.6) in
     let whole = ciphertext_made args.p args.public.now args.message.now args.digest.now old _ _ (length old - 32) decided
-    c.requires.5 c.requires.4 size (front_size (goal.at.returns c).After-encrypt-answer) c.encrypt-answer.ensures.sealed c.copy_at.ensures in record { answer = ap outcome c.in-Done.is ∙ sym decided; given = whole }
+    c.requires.5 c.requires.4 size (front_size (goal.at.returns c).After-encrypt-answer) c.encrypt-answer.ensures.sealed c.copy_at.ensures in
+    record { answer = ap outcome c.in-Done.is ∙ sym decided; given = whole }

@@ -18,4 +18,5 @@ returns c =
     let decided = sym made.answer ∙ ap outcome c.in-Done.is in
     let hashed = c.shared_key_of.ensures in
     let p = args.p in
-    let shared = shared_made p args.public.now args.message.now _ args.ciphertext.now _ args.shared.now decided made.given hashed in record { answer = made.answer; given = made.given; agreed = shared }
+    let shared = shared_made p args.public.now args.message.now _ args.ciphertext.now _ args.shared.now decided made.given hashed in
+    record { answer = made.answer; given = made.given; agreed = shared }

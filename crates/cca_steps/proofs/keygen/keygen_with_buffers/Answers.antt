@@ -19,7 +19,8 @@ returns-in_default c =
     let p = c.args.p in
     let seed = inner (goal.at.returns-in_default c).After-source_bytes in
     let decided = sym (c.keygen-answer.ensures.answer ∙ ap (key_draws p) seed) ∙ ap outcome c.in_default.is in
-    let public = public_made p c.args.seed.now _ _ c.args.public.now seed c.keygen-answer.ensures.public in record { answer = ap outcome c.in_default.is ∙ sym decided; given = public; kept = sym (leaves_refused _ _ decided) }
+    let public = public_made p c.args.seed.now _ _ c.args.public.now seed c.keygen-answer.ensures.public in
+    record { answer = ap outcome c.in_default.is ∙ sym decided; given = public; kept = sym (leaves_refused _ _ decided) }
 
 pub returns : goal.returns
 returns c =
@@ -28,4 +29,5 @@ returns c =
     let decided = sym (c.keygen-answer.ensures.answer ∙ ap (key_draws p) seed) ∙ ap outcome c.in-Done.is in
     let public = public_made p c.args.seed.now _ _ c.args.public.now seed c.keygen-answer.ensures.public in
     let written = c.write_both.ensures in
-    let secret = secret_made p c.args.seed.now _ c.args.public.now _ c.args.secret.now decided public written in record { answer = ap outcome c.in-Done.is ∙ sym decided; given = public; kept = secret }
+    let secret = secret_made p c.args.seed.now _ c.args.public.now _ c.args.secret.now decided public written in
+    record { answer = ap outcome c.in-Done.is ∙ sym decided; given = public; kept = secret }

@@ -33,6 +33,8 @@ slice_bounds-y-end c = omega (arith, vectors_fit (goal.at.slice_bounds-y-end c).
 pub first_with_buffers-requires : goal.first_with_buffers-requires
 first_with_buffers-requires c =
     let pre = c.requires in
-    let table = array_front 3605 c.table_length-length.result (tables_fit (goal.at.first_with_buffers-requires c).After-table_length-length) ∙ c.table_length-length.ensures in
-    let long = array_front 3328 c.transform_size-size.result (vectors_fit (goal.at.first_with_buffers-requires c).After-table_length-length) ∙ c.transform_size-size.ensures in
+    let table = array_front 3605 c.table_length-length.result (tables_fit (goal.at.first_with_buffers-requires c).After-table_length-length)
+    ∙ c.table_length-length.ensures in
+    let long = array_front 3328 c.transform_size-size.result (vectors_fit (goal.at.first_with_buffers-requires c).After-table_length-length)
+    ∙ c.transform_size-size.ensures in
     (pre.0, pre.1, pre.2, pre.3, pre.4, table, long, long, long)

@@ -24,7 +24,11 @@ pub pack_into-requires : goal.pack_into-requires
 pack_into-requires c =
     let added = c.sum_products-summed in
     let p = c.args.p in
-    let done = ap outcome c.in-Done.is in record { widths = record { least = omega (arith, c.requires.0.kept_byte); most = omega (arith, (listed_rules p c.requires.1).width_most) }; digit = total_digits p c.requires.1 c.args.seed.now c.args.multipliers.now added.new.total (added.ensures.result done) }
+    let done = ap outcome c.in-Done.is in
+    record {
+      widths = record { least = omega (arith, c.requires.0.kept_byte); most = omega (arith, (listed_rules p c.requires.1).width_most) };
+      digit = total_digits p c.requires.1 c.args.seed.now c.args.multipliers.now added.new.total (added.ensures.result done);
+    }
 
 pub returns : goal.returns
 returns c =
@@ -34,4 +38,7 @@ returns c =
     let decided = sym added.answer ∙ done in
     let taken = not-false _ (refuse_accepted _ 5 0 accepted decided).0 in let whole = accepted_call _ _ decided
     (c.pack_into.ensures
-    ∙ first_packed c.args.p pre.1 c.args.seed.now c.args.multipliers.now _ _ pre.3 taken pre.4 (added.result done)) in record { answer = whole.0; left = whole.1 }
+    ∙ first_packed c.args.p pre.1 c.args.seed.now c.args.multipliers.now _ _ pre.3 taken pre.4 (added.result done)) in record {
+      answer = whole.0;
+      left = whole.1;
+    }

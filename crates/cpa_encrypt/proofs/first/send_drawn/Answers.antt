@@ -30,7 +30,14 @@ residues_from-drawn-requires c =
     let pre = c.requires in
     let kept = listed_rules c.args.p pre.1 in
     let bytes = pre.0 in
-    let size = front_size (goal.at.residues_from-drawn-requires c).Start in record { rules = (kept, omega (arith, pre.3), bytes.some_bytpca, omega (arith, bytes.most_bytpca)); out_nonzero = (omega (arith, size, kept.some_n), omega (arith, size, kept.most_n, pre.4)) }
+    let size = front_size (goal.at.residues_from-drawn-requires c).Start in
+    record {
+      rules = (kept, omega (arith, pre.3), bytes.some_bytpca, omega (arith, bytes.most_bytpca));
+      out_nonzero = (
+        omega (arith, size, kept.some_n),
+        omega (arith, size, kept.most_n, pre.4),
+      );
+    }
 
 -- the numbers drawn, where the answer is a counter
 drawn : (c : In-Counter) → (uniform c.args.p (state (goal.at.In-Counter c).Start) c.args.p.bytpca c.args.p.n).drawn ≡ taken c.residues_from-drawn.new.out
@@ -45,14 +52,23 @@ send_first-requires c =
     (c.requires.1, c.requires.2, placed (drawn (goal.at.send_first-requires c).In-Counter))
 
 -- the answer is that of a draw of n numbers
-answered : (c : After-residues_from-drawn) → onward c.args.seed.now c.residues_from-drawn.result ≡ uniform_answer c.args.p (state (goal.at.After-residues_from-drawn c).Start) c.args.p.bytpca c.args.p.n
-answered c = c.residues_from-drawn.ensures.answer ∙ answer_whole c.args.p (state (goal.at.After-residues_from-drawn c).Start) _ (front_size (goal.at.After-residues_from-drawn c).Start)
+answered : (c : After-residues_from-drawn)
+    → onward c.args.seed.now c.residues_from-drawn.result ≡ uniform_answer c.args.p (state (goal.at.After-residues_from-drawn c).Start) c.args.p.bytpca
+    c.args.p.n
+answered c =
+    c.residues_from-drawn.ensures.answer ∙ answer_whole c.args.p (state (goal.at.After-residues_from-drawn c).Start) _
+    (front_size (goal.at.After-residues_from-drawn c).Start)
 
 pub returns-in_default : goal.returns-in_default
 returns-in_default c =
     let told = sym c.residues_from-drawn.ensures.answer ∙ ap (onward c.args.seed.now) c.in_default.is in
-    let none = drawn_refused c.args.p (state (goal.at.returns-in_default c).Start) _ (front_size (goal.at.returns-in_default c).Start) c.requires.0.some_bytpca _ told in record { answer = answered (goal.at.returns-in_default c).After-residues_from-drawn; result = λ xs u. absurd (none xs u) }
+    let none = drawn_refused c.args.p (state (goal.at.returns-in_default c).Start) _ (front_size (goal.at.returns-in_default c).Start) c.requires.0.some_bytpca
+    _ told in record { answer = answered (goal.at.returns-in_default c).After-residues_from-drawn; result = λ xs u. absurd (none xs u) }
 
 pub returns : goal.returns
 returns c =
-    record { answer = answered (goal.at.returns c).After-residues_from-drawn; result = drawn_sent c.args.p c.requires.1 (state (goal.at.returns c).Start) c.args.y.now _ c.requires.5 (drawn (goal.at.returns c).In-Counter) _ c.send_first.ensures }
+    record {
+      answer = answered (goal.at.returns c).After-residues_from-drawn;
+      result = drawn_sent c.args.p c.requires.1 (state (goal.at.returns c).Start)
+          c.args.y.now _ c.requires.5 (drawn (goal.at.returns c).In-Counter) _ c.send_first.ensures;
+    }

@@ -44,7 +44,8 @@ returns-in_default c =
     let none =
     polynomial_refused c.args.p c.requires.1 c.args.seed.now c.args.multipliers.now _ this.i this.invariant.reached _ c.requires.0
     (turn_below (goal.at.returns-in_default c).In-loop-i) (sym c.send_drawn-drawn.ensures.answer ∙ ap (onward c.args.seed.now) refusal) in
-    let answer = ap (λ (k : ℕ). refused k 0) (c.refusal_of.ensures ∙ ap refused_by refusal) in record { answer = answer ∙ none; result = λ e. absurd (accepted_refused e refl) }
+    let answer = ap (λ (k : ℕ). refused k 0) (c.refusal_of.ensures ∙ ap refused_by refusal) in
+    record { answer = answer ∙ none; result = λ e. absurd (accepted_refused e refl) }
 
 -- the polynomial of a turn is drawn and sent
 sent_here : (c : In-Counter) → PolynomialSent c.args.p c.args.seed.now c.loop-i.i
@@ -74,4 +75,5 @@ loop-i-preserved c =
 
 pub returns : goal.returns
 returns c =
-    let whole = adding_all c.args.p c.requires.1 c.args.seed.now c.args.multipliers.now c.loop-i.invariant (omega (arith, c.loop-i-test.false)) in record { answer = whole.0; result = whole.1 }
+    let whole = adding_all c.args.p c.requires.1 c.args.seed.now c.args.multipliers.now c.loop-i.invariant (omega (arith, c.loop-i-test.false)) in
+    record { answer = whole.0; result = whole.1 }

@@ -51,16 +51,27 @@ overflow_add-end c =
 
 pub offset_bounds-numbers-from : goal.offset_bounds-numbers-from
 offset_bounds-numbers-from c =
-    omega (arith, (turn_room (goal.at.offset_bounds-numbers-from c).In-loop-i).within, (turn_room (goal.at.offset_bounds-numbers-from c).In-loop-i).few, c.requires.1.size)
+    omega (
+      arith,
+      (turn_room (goal.at.offset_bounds-numbers-from c).In-loop-i).within,
+      (turn_room (goal.at.offset_bounds-numbers-from c).In-loop-i).few,
+      c.requires.1.size,
+    )
 
 pub slice_bounds-accumulate-end : goal.slice_bounds-accumulate-end
 slice_bounds-accumulate-end c =
-    omega (arith, (turn_room (goal.at.slice_bounds-accumulate-end c).In-loop-i).within, (turn_room (goal.at.slice_bounds-accumulate-end c).In-loop-i).few, c.requires.1.size)
+    omega (
+      arith,
+      (turn_room (goal.at.slice_bounds-accumulate-end c).In-loop-i).within,
+      (turn_room (goal.at.slice_bounds-accumulate-end c).In-loop-i).few,
+      c.requires.1.size,
+    )
 
 pub accumulate-requires : goal.accumulate-requires
 accumulate-requires c =
     correlating_addends c.args.p c.requires.0 c.args.numbers.now c.args.multipliers.now c.negated_inverse-k.ensures
-    c.requires.1 c.loop-i.invariant (turn_below (goal.at.accumulate-requires c).In-loop-i) c.send_multipliers.ensures (turn_part (goal.at.accumulate-requires c).In-loop-i)
+    c.requires.1 c.loop-i.invariant (turn_below (goal.at.accumulate-requires c).In-loop-i) c.send_multipliers.ensures
+    (turn_part (goal.at.accumulate-requires c).In-loop-i)
 
 pub overflow_add-i : goal.overflow_add-i
 overflow_add-i c =

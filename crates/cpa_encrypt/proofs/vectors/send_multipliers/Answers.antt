@@ -21,7 +21,8 @@ pub overflow_add-end : goal.overflow_add-end
 overflow_add-end c = omega (arith, (room (goal.at.overflow_add-end c).Start).within, (room (goal.at.overflow_add-end c).Start).few)
 
 pub offset_bounds-multipliers-from : goal.offset_bounds-multipliers-from
-offset_bounds-multipliers-from c = omega (arith, (room (goal.at.offset_bounds-multipliers-from c).Start).within, (room (goal.at.offset_bounds-multipliers-from c).Start).few)
+offset_bounds-multipliers-from c =
+    omega (arith, (room (goal.at.offset_bounds-multipliers-from c).Start).within, (room (goal.at.offset_bounds-multipliers-from c).Start).few)
 
 pub slice_bounds-copy_in-end : goal.slice_bounds-copy_in-end
 slice_bounds-copy_in-end c = omega (arith, (room (goal.at.slice_bounds-copy_in-end c).Start).within, c.requires.2.size)

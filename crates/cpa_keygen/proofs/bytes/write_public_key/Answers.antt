@@ -49,7 +49,12 @@ slice_bounds-pack_into-start-2 c =
 
 pub pack_into-requires : goal.pack_into-requires
 pack_into-requires c =
-    let pre = c.requires.byte_rules in rw (vectors_part (goal.at.pack_into-requires c).After-vectors_end-end) (record { widths = record { least = omega (arith, pre.0.kept_byte); most = omega (arith, (listed_rules c.args.p pre.1).width_most) }; digit = c.requires.digit })
+    let pre = c.requires.byte_rules in
+    rw (vectors_part (goal.at.pack_into-requires c).After-vectors_end-end)
+    (record {
+      widths = record { least = omega (arith, pre.0.kept_byte); most = omega (arith, (listed_rules c.args.p pre.1).width_most) };
+      digit = c.requires.digit;
+    })
 
 pub returns : goal.returns
 unfolding public_key_bytes_of

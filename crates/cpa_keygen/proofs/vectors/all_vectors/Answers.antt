@@ -39,7 +39,8 @@ returns-in_default c =
     let none =
     stopped _ _ (public_drawn p seed i) (λ xs run. public_never_ends p c.requires.0 seed xs run i)
     (sym (ap (onward seed) told) ∙ c.next_vector-drawn.ensures.answer) in
-    let one = all_taken_false p.t (public_drawn p seed) i (below (goal.at.returns-in_default c).After-next_vector-drawn) none.not_taken in record { answer = refuse_not_taken accepted one (c.refusal_of.ensures ∙ ap refused_by told ∙ none.five); result = λ t. absurd (true_false t one) }
+    let one = all_taken_false p.t (public_drawn p seed) i (below (goal.at.returns-in_default c).After-next_vector-drawn) none.not_taken in
+    record { answer = refuse_not_taken accepted one (c.refusal_of.ensures ∙ ap refused_by told ∙ none.five); result = λ t. absurd (true_false t one) }
 
 pub overflow_add-i : goal.overflow_add-i
 overflow_add-i c =
@@ -55,11 +56,13 @@ loop-i-preserved c =
     let drawn = advanced _ _ (public_drawn p seed this.i) (sym (ap (onward seed) c.in-Counter.is) ∙ vector.ensures.answer) in (
       vector.auto.x ∙ this.invariant.0,
       vector.auto.work ∙ this.invariant.1,
-      vectors_more p pre.0 pre.1 seed c.args.work.now pre.6 this.i this.counter this.work this.invariant.2 _ _ (below (goal.at.loop-i-preserved c).After-next_vector-drawn)
+      vectors_more p pre.0 pre.1 seed c.args.work.now pre.6 this.i this.counter this.work this.invariant.2 _ _
+          (below (goal.at.loop-i-preserved c).After-next_vector-drawn)
           drawn.all_taken_lem drawn.next_is (vector.ensures.result drawn.all_taken_lem),
     )
 
 pub returns : goal.returns
 returns c =
     let this = c.loop-i in
-    let end : this.i ≡ c.args.p.t = omega (arith, c.loop-i-test.false, this.invariant.2.within) in record { answer = sym (refuse_taken accepted (rw end at this.invariant.2.all_taken_lem)); result = λ t. rw end at this.invariant.2.written }
+    let end : this.i ≡ c.args.p.t = omega (arith, c.loop-i-test.false, this.invariant.2.within) in
+    record { answer = sym (refuse_taken accepted (rw end at this.invariant.2.all_taken_lem)); result = λ t. rw end at this.invariant.2.written }

@@ -34,7 +34,12 @@ residues_from-requires c =
     let kept = listed_rules p pre.1 in
     let bytes = pre.0 in
     let small = public_state_small p kept bytes c.args.seed.now c.args.i (omega (arith, pre.3)) in
-    let counter = ap (λ (s : State). s.counter) pre.4 in rw (front_length c.args.x.now p.n (room (goal.at.residues_from-requires c).Start)) (record { rules = (kept, omega (arith, pre.2), bytes.some_bytpca, omega (arith, bytes.most_bytpca)); out_nonzero = (kept.some_n, omega (arith, counter, small, kept.most_n)) })
+    let counter = ap (λ (s : State). s.counter) pre.4 in
+    rw (front_length c.args.x.now p.n (room (goal.at.residues_from-requires c).Start))
+    (record {
+      rules = (kept, omega (arith, pre.2), bytes.some_bytpca, omega (arith, bytes.most_bytpca));
+      out_nonzero = (kept.some_n, omega (arith, counter, small, kept.most_n));
+    })
 
 pub returns : goal.returns
 unfolding public_polynomial

@@ -86,7 +86,8 @@ add_errors-requires c =
       errors_length p pre.0 pre.1 i pre.2 work pre.5,
     ) (
       omega (arith, size, third_size p, kept.holds1, kept.rising1, kept.rising2),
-      correlated_below p pre.0 pre.1 i pre.2 work pre.5 c.args.x.now _ pre.4 (secret_part (goal.at.add_errors-requires c).After-transform_size-secret) c.vector_length-count.ensures
+      correlated_below p pre.0 pre.1 i pre.2 work pre.5 c.args.x.now _ pre.4 (secret_part (goal.at.add_errors-requires c).After-transform_size-secret)
+          c.vector_length-count.ensures
           c.correlate.ensures size,
       errors_below p pre.0 pre.1 i pre.2 work pre.5,
       kept.small,
@@ -102,5 +103,6 @@ returns c =
     errors_part p pre.0 pre.1 i pre.2 work pre.5 c.errors_start-start.result c.vector_length-count.result
     c.errors_start-start.ensures c.vector_length-count.ensures in
     ap (take (p.d + p.k)) (rw errors at c.add_errors.ensures)
-    ∙ key_vector_lem p pre.0 pre.1 i pre.2 work pre.5 c.args.x.now _ pre.4 (secret_part (goal.at.returns c).After-transform_size-secret) c.vector_length-count.ensures
+    ∙ key_vector_lem p pre.0 pre.1 i pre.2 work pre.5 c.args.x.now _ pre.4 (secret_part (goal.at.returns c).After-transform_size-secret)
+    c.vector_length-count.ensures
     c.correlate.ensures (c.correlate.auto.x ∙ pre.4.size)

@@ -16,7 +16,8 @@ returns-in_default c =
     let seed = c.args.seed.now in
     let none =
     stopped _ _ (public_drawn p seed c.args.i) (λ xs run. public_never_ends p c.requires.0 seed xs run c.args.i)
-    (sym (ap (onward seed) c.in_default.is) ∙ c.draw_polynomial-drawn.ensures.answer) in record { answer = c.draw_polynomial-drawn.ensures.answer; result = λ t. absurd (true_false t none.not_taken) }
+    (sym (ap (onward seed) c.in_default.is) ∙ c.draw_polynomial-drawn.ensures.answer) in
+    record { answer = c.draw_polynomial-drawn.ensures.answer; result = λ t. absurd (true_false t none.not_taken) }
 
 pub key_vector-requires : goal.key_vector-requires
 key_vector-requires c =

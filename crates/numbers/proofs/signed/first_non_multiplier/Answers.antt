@@ -35,7 +35,8 @@ returns-then-not-is_multiplier c =
     (λ h. rw zero-add (sym (tested (goal.at.returns-then-not-is_multiplier c).After-is_multiplier) ∙ c.if-not-is_multiplier.true))
 
 pub loop-i-preserved : goal.loop-i-preserved
-loop-i-preserved c = (search rules, below_more _ _ c.loop-i.invariant.1 (sym (tested (goal.at.loop-i-preserved c).After-is_multiplier) ∙ c.if-not-is_multiplier.false))
+loop-i-preserved c =
+    (search rules, below_more _ _ c.loop-i.invariant.1 (sym (tested (goal.at.loop-i-preserved c).After-is_multiplier) ∙ c.if-not-is_multiplier.false))
 
 pub returns : goal.returns
 returns c =

@@ -24,4 +24,12 @@ slice_bounds-errors_from-end c = omega (arith, count_most c, c.requires.1)
 pub errors_from-requires : goal.errors_from-requires
 errors_from-requires c =
     let rules = c.parameters-p.ensures in
-    let size = front_length c.args.out.now c.error_count-count.result (omega (arith, count_most (goal.at.errors_from-requires c).After-error_count-count, c.requires.1)) in record { rules = (rules.0, rules.1, c.requires.0, size ∙ c.error_count-count.ensures.0); p_bound = omega (arith, rules.1.most_error_bytes) }
+    let size = front_length c.args.out.now c.error_count-count.result (omega (
+      arith,
+      count_most (goal.at.errors_from-requires c).After-error_count-count,
+      c.requires.1,
+    )) in record {
+      rules =
+          (rules.0, rules.1, c.requires.0, size ∙ c.error_count-count.ensures.0);
+      p_bound = omega (arith, rules.1.most_error_bytes);
+    }

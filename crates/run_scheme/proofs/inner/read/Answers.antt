@@ -34,5 +34,11 @@ work_length-requires c = kept (goal.at.work_length-requires c).After-parameters_
 pub decrypt-requires : goal.decrypt-requires
 decrypt-requires c =
     let sealed = c.if-sealed-cpa_ciphertext_bytes.false ∙ c.cpa_ciphertext_bytes.ensures in
-    let work = c.if-work-work_length.false ∙ c.work_length.ensures in
-    (bytes (goal.at.decrypt-requires c).After-parameters_of-p, listed (goal.at.decrypt-requires c).After-parameters_of-p, c.if-seed-ne32.false, sealed, c.if-message-ne32.false, work)
+    let work = c.if-work-work_length.false ∙ c.work_length.ensures in (
+      bytes (goal.at.decrypt-requires c).After-parameters_of-p,
+      listed (goal.at.decrypt-requires c).After-parameters_of-p,
+      c.if-seed-ne32.false,
+      sealed,
+      c.if-message-ne32.false,
+      work,
+    )

@@ -42,5 +42,12 @@ numbers_before_packing-requires c =
     let public = c.if-public-public_key_bytes.false ∙ c.public_key_bytes.ensures in
     let count = c.if-out-p.false in
     let below = sym c.key_below.ensures ∙ c.if-not-key_below.false in
-    let work = c.key_below.auto.work ∙ c.if-work-work_length.false ∙ c.work_length.ensures in
-    (bytes (goal.at.numbers_before_packing-requires c).After-parameters_of-p, listed (goal.at.numbers_before_packing-requires c).After-parameters_of-p, public, below, c.if-seed-ne32.false, count, work)
+    let work = c.key_below.auto.work ∙ c.if-work-work_length.false ∙ c.work_length.ensures in (
+      bytes (goal.at.numbers_before_packing-requires c).After-parameters_of-p,
+      listed (goal.at.numbers_before_packing-requires c).After-parameters_of-p,
+      public,
+      below,
+      c.if-seed-ne32.false,
+      count,
+      work,
+    )

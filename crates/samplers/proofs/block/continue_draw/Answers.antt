@@ -31,7 +31,8 @@ stopped_at-requires c = continuing_run c.loop-done.invariant (omega (arith, c.lo
 pub returns-in_default : goal.returns-in_default
 returns-in_default c =
     let inv = c.loop-done.invariant in
-    let stop = continuing_stop inv (omega (arith, inv.kept)) _ (refused (goal.at.returns-in_default c).After-refusal_of) in record { answer = c.stopped_at.ensures ∙ stop.0; result = stop.1 }
+    let stop = continuing_stop inv (omega (arith, inv.kept)) _ (refused (goal.at.returns-in_default c).After-refusal_of) in
+    record { answer = c.stopped_at.ensures ∙ stop.0; result = stop.1 }
 
 pub loop-done-preserved : goal.loop-done-preserved
 loop-done-preserved c =

@@ -25,14 +25,17 @@ continue_draw-progress-requires c =
 pub returns-in_default : goal.returns-in_default
 returns-in_default c =
     let told = ap standing c.in_default.is in
-    let number = c.refusal_of.ensures ∙ ap stopped_by told in let whole = drawing_refused c.loop-reached.invariant.1 _ _ (rw c.loop-reached.invariant.0 at c.source_bytes-counter.ensures.bytes)
-    (rw c.loop-reached.invariant.0 at c.source_bytes-counter.ensures.state) _ _ (ap stopped number ∙ sym told ∙ c.continue_draw-progress.ensures.answer) in record { answer = whole.0; result = whole.1 }
+    let number = c.refusal_of.ensures ∙ ap stopped_by told in
+    let whole = drawing_refused c.loop-reached.invariant.1 _ _ (rw c.loop-reached.invariant.0 at c.source_bytes-counter.ensures.bytes)
+    (rw c.loop-reached.invariant.0 at c.source_bytes-counter.ensures.state) _ _ (ap stopped number ∙ sym told ∙ c.continue_draw-progress.ensures.answer) in
+    record { answer = whole.0; result = whole.1 }
 
 pub returns-then-reached-out : goal.returns-then-reached-out
 returns-then-reached-out c =
     let whole = drawing_all c.loop-reached.invariant.1 _ _ (rw c.loop-reached.invariant.0 at c.source_bytes-counter.ensures.bytes)
     (rw c.loop-reached.invariant.0 at c.source_bytes-counter.ensures.state) _ _ _ (search rules) c.if-reached-out.true
-    (sym (ap standing c.in-Reached.is) ∙ c.continue_draw-progress.ensures.answer) c.continue_draw-progress.ensures.result in record { answer = whole.0; result = whole.1 }
+    (sym (ap standing c.in-Reached.is) ∙ c.continue_draw-progress.ensures.answer) c.continue_draw-progress.ensures.result in
+    record { answer = whole.0; result = whole.1 }
 
 pub loop-reached-smaller : goal.loop-reached-smaller
 loop-reached-smaller c =

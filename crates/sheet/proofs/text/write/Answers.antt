@@ -32,7 +32,8 @@ pub returns-in-Done : goal.returns-in-Done
 returns-in-Done c =
     let input = c.args.input.now in
     printed_as
-    (ap (λ (set : ℕ). answer_text (rows_answer set input) (rows_text set input)) c.set_byte-set.ensures ∙ checked_text input (passed (goal.at.returns-in-Done c).In-Done))
+    (ap (λ (set : ℕ). answer_text (rows_answer set input) (rows_text set input)) c.set_byte-set.ensures ∙ checked_text input
+    (passed (goal.at.returns-in-Done c).In-Done))
     c.write_checked.ensures
 
 pub returns-in-Refused : goal.returns-in-Refused

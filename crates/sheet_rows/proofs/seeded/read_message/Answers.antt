@@ -22,7 +22,8 @@ keygen-answer-requires c =
 pub returns-in_default : goal.returns-in_default
 returns-in_default c =
     let answer = c.keygen-answer.ensures.answer in
-    let refused = ap outcome c.in_default.is in record { answer = answer; key = λ a. absurd (accepted_refused a refused); read = λ a. absurd (accepted_refused a refused) }
+    let refused = ap outcome c.in_default.is in
+    record { answer = answer; key = λ a. absurd (accepted_refused a refused); read = λ a. absurd (accepted_refused a refused) }
 
 pub encrypt-requires : goal.encrypt-requires
 encrypt-requires c =

@@ -21,10 +21,16 @@ cpa_ciphertext_bytes-ciphertext_size-requires c = kept (goal.at.cpa_ciphertext_b
 
 -- the public key and the ciphertext fit
 public_fits : (c : After-cpa_ciphertext_bytes-ciphertext_size) → c.public_key_bytes-key_size.result ≤ 26912
-public_fits c = omega (arith, c.public_key_bytes-key_size.ensures, (kept (goal.at.After-cpa_ciphertext_bytes-ciphertext_size c).After-slice_known-3-1).most_public_key)
+public_fits c =
+    omega (arith, c.public_key_bytes-key_size.ensures, (kept (goal.at.After-cpa_ciphertext_bytes-ciphertext_size c).After-slice_known-3-1).most_public_key)
 
 ciphertext_fits : (c : After-cpa_ciphertext_bytes-ciphertext_size) → c.cpa_ciphertext_bytes-ciphertext_size.result ≤ 8320
-ciphertext_fits c = omega (arith, c.cpa_ciphertext_bytes-ciphertext_size.ensures, (kept (goal.at.After-cpa_ciphertext_bytes-ciphertext_size c).After-slice_known-3-1).most_sealed)
+ciphertext_fits c =
+    omega (
+      arith,
+      c.cpa_ciphertext_bytes-ciphertext_size.ensures,
+      (kept (goal.at.After-cpa_ciphertext_bytes-ciphertext_size c).After-slice_known-3-1).most_sealed,
+    )
 
 pub slice_bounds-public-end : goal.slice_bounds-public-end
 slice_bounds-public-end c = omega (arith, public_fits c)
@@ -38,6 +44,7 @@ rows_with_buffers-requires c =
     let key = c.public_key_bytes-key_size in
     let public = array_front 26912 key.result (public_fits (goal.at.rows_with_buffers-requires c).After-cpa_ciphertext_bytes-ciphertext_size) ∙ key.ensures in
     let sent = c.cpa_ciphertext_bytes-ciphertext_size in
-    let ciphertext = array_front 8320 sent.result (ciphertext_fits (goal.at.rows_with_buffers-requires c).After-cpa_ciphertext_bytes-ciphertext_size) ∙ sent.ensures in
+    let ciphertext = array_front 8320 sent.result (ciphertext_fits (goal.at.rows_with_buffers-requires c).After-cpa_ciphertext_bytes-ciphertext_size)
+    ∙ sent.ensures in
     let seed = array_front 32 32 (omega arith) in
     (pre.0, pre.1, pre.2, pre.3, pre.4, public, seed, ciphertext, seed, pre.5, pre.6, pre.7, pre.8)
