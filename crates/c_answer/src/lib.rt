@@ -12,7 +12,7 @@ pub fn code(answer: Answer) -> u64
     ensures { result ≡ coded (outcome answer) }
 {
     match answer {
-        Answer::Done => 0,
-        Answer::Refused(number, place) => number as u64 + 256 * (place as u64),
+        Ok(()) => 0,
+        Err(refusal) => refusal.number() as u64 + 256 * (refusal.place() as u64),
     }
 }

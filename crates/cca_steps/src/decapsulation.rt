@@ -9,7 +9,7 @@ ghost use Rattle.scheme.specs.Exchange.{expanded_seed, inner_seed, decapsulated_
 ghost use Rattle.scheme.specs.Answers.{work_length_of, encrypt_draws, decapsulate_draws};
 ghost use Rattle.cca_steps.specs.Steps.{inner_draw, key_of_message_of};
 
-use calls::Answer;
+use calls::{Answer, Refusal};
 use sets::Parameters;
 
 // Expands a seed into the inner seed and the reject bytes, and the inner seed into the seed of the secret.
@@ -93,14 +93,11 @@ fn key_of_message<'a>(
         (key_of_message_of p (drop 32 secret.now) message.now (drop 32 expanded.now) ciphertext.now)
         shared.old }
 {
-    let answer = crate::encapsulation::encapsulate(p, &secret[32..], message, again, work);
-    let Answer::Done = answer else {
-        return answer;
-    };
+    crate::encapsulation::encapsulate(p, &secret[32..], message, again, work)?;
     let agrees = cca_bytes::same_bytes(again, ciphertext);
     let part = cca_bytes::hashed_part(agrees, message, expanded);
     cca_bytes::shared_key_of(part, ciphertext, shared);
-    answer
+    Ok(())
 }
 
 // The shared key of a ciphertext, with room for what is made on the way.
@@ -122,12 +119,9 @@ fn decapsulated_with_buffers(
         (decapsulated p secret.now ciphertext.now) shared.old }
 {
     if !cpa_encrypt::key_below(p, &secret[32..], work) {
-        return Answer::Refused(3, 0);
+        return Err(Refusal::OutOfRange(0));
     }
-    let answer = decrypt(p, secret, ciphertext, expanded, message, work);
-    let Answer::Done = answer else {
-        return answer;
-    };
+    decrypt(p, secret, ciphertext, expanded, message, work)?;
     key_of_message(
         p, secret, ciphertext, expanded, message, again, shared, work,
     )

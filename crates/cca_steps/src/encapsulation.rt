@@ -28,19 +28,16 @@ fn encapsulate_digest(
         (encapsulated p public.now message.now) ciphertext.old }
 {
     let n = ciphertext.len() - 32;
-    let answer = cpa_encrypt::encrypt(
+    cpa_encrypt::encrypt(
         p,
         public,
         message,
         &digest[0..32],
         &mut ciphertext[0..n],
         work,
-    );
-    let Answer::Done = answer else {
-        return answer;
-    };
+    )?;
     calls::copy_at(ciphertext, n, &digest[32..64]);
-    answer
+    Ok(())
 }
 
 // Encrypts a message with the seed that G makes of it; `digest` is lent for what G gives.
@@ -98,10 +95,7 @@ pub fn encapsulated_key(
     ensures agreed { shared.new ≡ leaves (encrypt_draws p public.now)
         (shared_key p public.now message.now) shared.old }
 {
-    let answer = encapsulate(p, public, message, ciphertext, work);
-    let Answer::Done = answer else {
-        return answer;
-    };
+    encapsulate(p, public, message, ciphertext, work)?;
     cca_bytes::shared_key_of(message, ciphertext, shared);
-    answer
+    Ok(())
 }

@@ -30,12 +30,9 @@ fn keygen_with_buffers(
         (exchange_secret_key p seed.now) secret.old }
 {
     byte_source::source_bytes(p, seed, 0, expanded);
-    let answer = cpa_keygen::keygen(p, &expanded[0..32], public, inner, work);
-    let Answer::Done = answer else {
-        return answer;
-    };
+    cpa_keygen::keygen(p, &expanded[0..32], public, inner, work)?;
     cca_bytes::write_both(secret, seed, public);
-    answer
+    Ok(())
 }
 
 // Makes the keys of a seed.

@@ -15,7 +15,6 @@ ghost use Rattle.scheme.specs.Answers.{work_length_of, only_residues, secret_dra
 ghost use Rattle.cpa_decrypt.specs.Decrypted.{reduced, first_correlations, difference_bit_of, difference_bits, decrypted_bits_from, decrypted_message_from};
 
 use calls::Answer;
-use samplers::Advance;
 use sets::Parameters;
 
 // Takes each number modulo q; all of them are below 2 · q.
@@ -179,12 +178,9 @@ pub fn decrypt(
         ≡ leaves (secret_draw p seed.now) (decrypted_message p seed.now ciphertext.now) message.old }
 {
     let size = p.d3;
-    let drawn = samplers::residues_from(p, seed, p.bytpcs, 0, &mut work[0..size]);
-    let Advance::Counter(_) = drawn else {
-        return Answer::Refused(samplers::refusal_of(drawn), 0);
-    };
+    samplers::residues_from(p, seed, p.bytpcs, 0, &mut work[0..size])?;
     read(p, ciphertext, &work[0..size], message);
-    Answer::Done
+    Ok(())
 }
 
 // Whether each number of ĉ1 is below q; the work slice is lent for the numbers.

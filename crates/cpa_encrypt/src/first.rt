@@ -27,12 +27,9 @@ fn send_drawn(p: Parameters, tables: &[u32], seed: &[u8], counter: u32, y: &mut 
     ensures result { (xs : List ℕ) → (uniform p (state_at seed.now counter) p.bytpca p.n).drawn ≡ taken xs → y.new ≡ sent p 2 xs }
 {
     let n = p.n;
-    let drawn = samplers::residues_from(p, seed, p.bytpca, counter, &mut y[0..n]);
-    let Advance::Counter(_) = drawn else {
-        return drawn;
-    };
+    let next = samplers::residues_from(p, seed, p.bytpca, counter, &mut y[0..n])?;
     ntt_products::send_first(p, 2, tables, y, n);
-    drawn
+    Ok(next)
 }
 
 // Adds up in `total` the products of the multiplier polynomials and the public polynomials, all of them sent; the first draw that is refused decides.
@@ -54,18 +51,12 @@ fn sum_products(
 {
     let k = montgomery::negated_inverse(p.q);
     let mut counter: u32 = 0;
-    let mut i: usize = 0;
-    while i < p.t {
+    for i in 0..p.t {
         crate::vectors::send_multipliers(p, 2, tables, multipliers, i, x);
-        let drawn = send_drawn(p, tables, seed, counter, y);
-        let Advance::Counter(next) = drawn else {
-            return Answer::Refused(samplers::refusal_of(drawn), 0);
-        };
+        counter = send_drawn(p, tables, seed, counter, y)?;
         ntt_products::accumulate(total, x, y, p.q, k);
-        counter = next;
-        i += 1;
     }
-    Answer::Done
+    Ok(())
 }
 
 // The first part, with the tables of the root and the vectors on the way in lent slices.
@@ -88,12 +79,9 @@ fn first_with_buffers(
 {
     ntt_products::load_tables(p, 2, tables);
     calls::clear(total);
-    let summed = sum_products(p, seed, multipliers, tables, total, x, y);
-    let Answer::Done = summed else {
-        return summed;
-    };
+    sum_products(p, seed, multipliers, tables, total, x, y)?;
     packing::pack_into(total, p.width, out);
-    Answer::Done
+    Ok(())
 }
 
 // Writes the first part of a ciphertext, where no draw of a public polynomial is refused.

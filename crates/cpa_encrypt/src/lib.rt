@@ -12,7 +12,7 @@ ghost use Rattle.scheme.specs.Answers.{work_length_of, all_taken, only_residues,
 ghost use Rattle.scheme.specs.Encryption as scheme;
 ghost use Rattle.cpa_encrypt.specs.Parts.{Multipliers, KeyResidues, Loaded, packed_first, packed_second};
 
-use calls::Answer;
+use calls::{Answer, Refusal};
 use sets::Parameters;
 
 mod first;
@@ -47,10 +47,7 @@ fn encrypt_numbers(
         message.now) ciphertext.old }
 {
     let middle = sets::derived::packed_bytes(p.d2, p.width as usize);
-    let first = first::encrypt_first(p, seed, multipliers, &mut ciphertext[0..middle]);
-    let Answer::Done = first else {
-        return first;
-    };
+    first::encrypt_first(p, seed, multipliers, &mut ciphertext[0..middle])?;
     let end = ciphertext.len();
     second::encrypt_second(
         p,
@@ -59,7 +56,7 @@ fn encrypt_numbers(
         message,
         &mut ciphertext[middle..end],
     );
-    Answer::Done
+    Ok(())
 }
 
 // Holds the numbers of a public key and the multipliers of a seed, one after the other, in the work slice; false where a number of the key is q or more.
@@ -94,7 +91,7 @@ pub fn encrypt(
     let keys = p.d1 * p.t;
     let end = keys + sets::derived::multiplier_count(p);
     if !load(p, key, seed, work) {
-        return Answer::Refused(3, 0);
+        return Err(Refusal::OutOfRange(0));
     }
     encrypt_numbers(
         p,

@@ -49,12 +49,9 @@ fn draw_secret(p: Parameters, seed: &[u8], work: &mut [u32]) -> Answer
     ensures answer { outcome result ≡ refuse (not (is_taken (secret_drawn p seed.now))) 5 0 accepted }
     ensures result { is_taken (secret_drawn p seed.now) ≡ true → SecretHeld p seed.now work.new }
 {
-    let drawn = draw_stored(p, seed, work);
-    let Advance::Counter(next) = drawn else {
-        return Answer::Refused(samplers::refusal_of(drawn), 0);
-    };
+    let next = draw_stored(p, seed, work)?;
     draw_errors(p, seed, next, work);
-    Answer::Done
+    Ok(())
 }
 
 // Draws the secret, the errors and the public polynomials, and stores the vectors of the public key in the work slice.
@@ -65,10 +62,7 @@ fn store_key(p: Parameters, seedsk: &[u8], seedpk: &[u8], work: &mut [u32]) -> A
     ensures result { outcome result ≡ accepted → region work.new (vectors_start_of p) (p.d1 * p.t)
         ≡ joined p.t (λ i. sent_inverse p 1 (public_vector p seedsk.now seedpk.now i)) }
 {
-    let drawn = draw_secret(p, seedsk, work);
-    let Answer::Done = drawn else {
-        return drawn;
-    };
+    draw_secret(p, seedsk, work)?;
     vectors::store_vectors(p, seedpk, work)
 }
 
@@ -90,13 +84,10 @@ fn keygen_with_buffers(
 {
     let next = byte_source::source_bytes(p, seed, 0, seedsk);
     byte_source::source_bytes(p, seed, next, seedpk);
-    let stored = store_key(p, seedsk, seedpk, work);
-    let Answer::Done = stored else {
-        return stored;
-    };
+    store_key(p, seedsk, seedpk, work)?;
     bytes::write_public_key(p, seedpk, work, public_key);
     calls::copy_at(secret_seed, 0, seedsk);
-    Answer::Done
+    Ok(())
 }
 
 // Makes the public key and the secret seed of a key seed.

@@ -127,13 +127,10 @@ fn next_vector(
     ensures result { is_taken (public_drawn p seed.now i) ≡ true → work.new ≡ over work.old (vectors_start_of p + p.d1 * i)
         (stored_vector p seed.now work.old i) }
 {
-    let drawn = draw_polynomial(p, seed, i, counter, x);
-    let Advance::Counter(_) = drawn else {
-        return drawn;
-    };
+    let next = draw_polynomial(p, seed, i, counter, x)?;
     key_vector(p, i, tables, x, work);
     store_vector(p, i, inverse_tables, x, work);
-    drawn
+    Ok(next)
 }
 
 // Stores all vectors of a public key.
@@ -153,16 +150,10 @@ fn all_vectors(
 {
     let t = p.t;
     let mut counter: u32 = 0;
-    let mut i: usize = 0;
-    while i < t {
-        let drawn = next_vector(p, seed, i, counter, tables, inverse_tables, x, work);
-        let Advance::Counter(next) = drawn else {
-            return Answer::Refused(samplers::refusal_of(drawn), 0);
-        };
-        counter = next;
-        i += 1;
+    for i in 0..t {
+        counter = next_vector(p, seed, i, counter, tables, inverse_tables, x, work)?;
     }
-    Answer::Done
+    Ok(())
 }
 
 // Fills the tables of the transforms, and stores all vectors of a public key.

@@ -1,9 +1,9 @@
 -- Uniform residues: candidates of three bytes, and which of them are taken (003, section 2.2.3, algorithm 8; 01, Draws and Draws over lent bytes).
 -- Assumes nothing.
-use Rattle.std.specs.Prelude.{◌≡◌, refl, cond, List, [], ◌∷◌, ◌++◌, ℕ, zero, suc, ◌+◌, ◌-◌, ◌*◌, ◌%◌, ltb, length, drop, replicate}
+use Rattle.std.specs.Prelude.{◌≡◌, refl, cond, List, [], ◌∷◌, ◌++◌, ℕ, zero, suc, ◌+◌, ◌-◌, ◌*◌, ◌%◌, ltb, length, drop, replicate, Result, Ok, Err}
 use Rattle.maths.specs.Bytes.{little_endian}
-use Rattle.draws.specs.declared.Draw.{Draw}
-use Rattle.draws.specs.declared.Draw.TheVariants.{Number, Refused}
+use Rattle.draws.specs.declared.DrawRefusal.{DrawRefusal}
+use Rattle.draws.specs.declared.DrawRefusal.TheVariants.{BytesEnded, SetAside}
 
 -- candidate j is the number of bytes 3j, 3j + 1 and 3j + 2; one or two bytes at the end are no candidate
 unfoldable pub candidates : List ℕ → List ℕ
@@ -93,15 +93,15 @@ pub data Sample : Type 0 where
   number : ℕ → ℕ → Sample
   refusal : ℕ → Sample
 
--- the papers' answer for each case of the code's answer
-abbrev pub sample : Draw → Sample
-sample (Number x next) = number x next
-sample (Refused n) = refusal n
+-- the papers' number of each refusal of a draw
+abbrev pub draw_number : DrawRefusal → ℕ
+draw_number BytesEnded = 4
+draw_number SetAside = 5
 
--- the number of the refusal, and 0 where there is none
-abbrev pub refusal_of_value : Sample → ℕ
-refusal_of_value (number x next) = 0
-refusal_of_value (refusal n) = n
+-- the papers' answer for each case of the code's answer
+abbrev pub sample : Result (ℕ × ℕ) DrawRefusal → Sample
+sample (Ok drawn) = number drawn.0 drawn.1
+sample (Err draw) = refusal (draw_number draw)
 
 -- one result from candidates that begin at a byte position: 4 when they end, 5 when the last is set aside
 unfoldable pub sample_of : ℕ → ℕ → Found → Sample

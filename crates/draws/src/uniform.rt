@@ -3,10 +3,10 @@ ghost use Rattle.std.specs.Prelude.{◌≡◌, ◌+◌, ◌≤◌, ◌<◌, leng
 ghost use Rattle.calls.specs.Region.{region};
 ghost use Rattle.calls.specs.Outcome.{outcome, accepted};
 ghost use Rattle.maths.specs.Bytes.{little_endian};
-ghost use Rattle.draws.specs.Uniform.{candidates, accept, numbers, sample, refusal_of_value, sample_at};
+ghost use Rattle.draws.specs.Uniform.{candidates, accept, numbers, sample, sample_at};
 ghost use Rattle.draws.specs.Calls.{drawn_answer};
 
-use crate::Draw;
+use crate::{Draw, DrawRefusal};
 use calls::Answer;
 
 // A byte as a larger number.
@@ -32,7 +32,7 @@ pub fn draw_one(bytes: &[u8], at: usize, q: u32, threshold: u32, before: u32) ->
 {
     let scale = residues::scale(q);
     if bytes.len() < 3 {
-        return Draw::Refused(4);
+        return Err(DrawRefusal::BytesEnded);
     }
     let last = bytes.len() - 3;
     let mut position = at;
@@ -41,24 +41,14 @@ pub fn draw_one(bytes: &[u8], at: usize, q: u32, threshold: u32, before: u32) ->
         let candidate = candidate_at(bytes, position);
         position += 3;
         if candidate < threshold {
-            return Draw::Number(residues::reduce_scaled(candidate, q, scale), position);
+            return Ok((residues::reduce_scaled(candidate, q, scale), position));
         }
         run += 1;
         if run == 128 {
-            return Draw::Refused(5);
+            return Err(DrawRefusal::SetAside);
         }
     }
-    Draw::Refused(4)
-}
-
-// The number of a draw's refusal, and 0 where it is none.
-pub fn refusal_of(drawn: Draw) -> u8
-    ensures { result ≡ refusal_of_value (sample drawn) }
-{
-    match drawn {
-        Draw::Number(_, _) => 0,
-        Draw::Refused(number) => number,
-    }
+    Err(DrawRefusal::BytesEnded)
 }
 
 // The answer of a draw of residues: the first refusal with its result's place. Nothing is written.
@@ -67,16 +57,14 @@ pub fn look(bytes: &[u8], q: u32, threshold: u32, wanted: usize) -> Answer
     ensures { outcome result ≡ drawn_answer 0 (accept q threshold wanted 0 (candidates bytes.now)) }
 {
     let mut position: usize = 0;
-    let mut i: usize = 0;
-    while i < wanted {
+    for i in 0..wanted {
         let drawn = draw_one(bytes, position, q, threshold, 0);
-        let Draw::Number(_, next) = drawn else {
-            return Answer::Refused(refusal_of(drawn), i as u32);
+        let Ok((_, next)) = drawn else {
+            return Err(drawn.unwrap_err().at(i as u32));
         };
         position = next;
-        i += 1;
     }
-    Answer::Done
+    Ok(())
 }
 
 // Draws a residue for each number of `out`, where no draw is refused.
@@ -85,13 +73,11 @@ pub fn fill(bytes: &[u8], q: u32, threshold: u32, out: &mut [u32])
     ensures { out.new ≡ numbers (accept q threshold (length out.old) 0 (candidates bytes.now)) }
 {
     let mut position: usize = 0;
-    let mut i: usize = 0;
-    while i < out.len() {
-        let Draw::Number(residue, next) = draw_one(bytes, position, q, threshold, 0) else {
+    for number in out.iter_mut() {
+        let Ok((residue, next)) = draw_one(bytes, position, q, threshold, 0) else {
             return;
         };
-        out[i] = residue;
+        *number = residue;
         position = next;
-        i += 1;
     }
 }

@@ -11,7 +11,7 @@ ghost use Rattle.scheme.specs.Answers.{work_length_of, decrypt_draws};
 ghost use Rattle.scheme.specs.Answers.{encryption_key_answer, encryption_public_left, encryption_secret_left, encryption_key_work};
 ghost use Rattle.scheme.specs.Answers.{encrypt_answer, ciphertext_left, encrypt_work, decrypt_answer, message_left, decrypt_work};
 
-use calls::Answer;
+use calls::{Answer, Refusal};
 use sets::Parameters;
 
 // The keys of a seed.
@@ -32,7 +32,7 @@ pub fn key(
         public.old secret.old work.old }
 {
     let p = sets::parameters_of(set);
-    let checked = scheme_checks::key_checked(
+    scheme_checks::key_checked(
         sets::ENCRYPTION,
         set,
         p,
@@ -40,10 +40,7 @@ pub fn key(
         public.len(),
         secret.len(),
         work.len(),
-    );
-    let Answer::Done = checked else {
-        return checked;
-    };
+    )?;
     let answer = cpa_keygen::keygen(p, seed, public, secret, work);
     calls::clear(work);
     answer
@@ -66,7 +63,7 @@ pub fn encrypt(
         ciphertext.old work.old }
 {
     let p = sets::parameters_of(set);
-    let checked = scheme_checks::encrypt_checked(
+    scheme_checks::encrypt_checked(
         sets::ENCRYPTION,
         set,
         p,
@@ -75,10 +72,7 @@ pub fn encrypt(
         seed.len(),
         ciphertext.len(),
         work.len(),
-    );
-    let Answer::Done = checked else {
-        return checked;
-    };
+    )?;
     let answer = cpa_encrypt::encrypt(p, public, message, seed, ciphertext, work);
     calls::clear(work);
     answer
@@ -99,7 +93,7 @@ fn decrypt_if_below(
         (decrypted_message p secret.now ciphertext.now) message.old }
 {
     if !cpa_decrypt::first_below(p, ciphertext, work) {
-        return Answer::Refused(3, 0);
+        return Err(Refusal::OutOfRange(0));
     }
     cpa_decrypt::decrypt(p, secret, ciphertext, message, work)
 }
@@ -120,7 +114,7 @@ pub fn decrypt(
         message.old work.old }
 {
     let p = sets::parameters_of(set);
-    let checked = scheme_checks::decrypt_checked(
+    scheme_checks::decrypt_checked(
         sets::ENCRYPTION,
         set,
         p,
@@ -128,10 +122,7 @@ pub fn decrypt(
         ciphertext.len(),
         message.len(),
         work.len(),
-    );
-    let Answer::Done = checked else {
-        return checked;
-    };
+    )?;
     let answer = decrypt_if_below(p, secret, ciphertext, message, work);
     calls::clear(work);
     answer

@@ -28,7 +28,7 @@ pub fn key(
         public.old secret.old work.old }
 {
     let p = sets::parameters_of(set);
-    let checked = scheme_checks::key_checked(
+    scheme_checks::key_checked(
         sets::EXCHANGE,
         set,
         p,
@@ -36,10 +36,7 @@ pub fn key(
         public.len(),
         secret.len(),
         work.len(),
-    );
-    let Answer::Done = checked else {
-        return checked;
-    };
+    )?;
     let answer = keygen::keygen(p, seed, public, secret, work);
     calls::clear(work);
     answer
@@ -64,7 +61,7 @@ pub fn encapsulate(
         ciphertext.old shared.old work.old }
 {
     let p = sets::parameters_of(set);
-    let checked = scheme_checks::encrypt_checked(
+    scheme_checks::encrypt_checked(
         sets::EXCHANGE,
         set,
         p,
@@ -73,10 +70,7 @@ pub fn encapsulate(
         shared.len(),
         ciphertext.len(),
         work.len(),
-    );
-    let Answer::Done = checked else {
-        return checked;
-    };
+    )?;
     let answer = encapsulation::encapsulated_key(p, public, message, ciphertext, shared, work);
     calls::clear(work);
     answer
@@ -98,7 +92,7 @@ pub fn decapsulate(
         shared.old work.old }
 {
     let p = sets::parameters_of(set);
-    let checked = scheme_checks::decrypt_checked(
+    scheme_checks::decrypt_checked(
         sets::EXCHANGE,
         set,
         p,
@@ -106,10 +100,7 @@ pub fn decapsulate(
         ciphertext.len(),
         shared.len(),
         work.len(),
-    );
-    let Answer::Done = checked else {
-        return checked;
-    };
+    )?;
     let answer = decapsulation::decapsulated_key(p, secret, ciphertext, shared, work);
     calls::clear(work);
     answer

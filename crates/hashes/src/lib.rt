@@ -5,7 +5,7 @@ ghost use Rattle.std.specs.Prelude.{◌≡◌, [], ◌∷◌};
 ghost use Rattle.calls.specs.Outcome.{outcome};
 ghost use Rattle.hashes.specs.Calls.{within, shake_answer, shake_left, kmac_answer, kmac_left, kmacxof_left};
 
-use calls::Answer;
+use calls::{Answer, Refusal};
 
 // The longest slice that an open call accepts.
 const LIMIT: usize = 65536;
@@ -16,13 +16,13 @@ pub fn shake256(input: &[u8], out: &mut [u8]) -> Answer
     ensures result { out.new ≡ shake_left input.now out.old }
 {
     if LIMIT < input.len() {
-        return Answer::Refused(6, 0);
+        return Err(Refusal::Size);
     }
     if LIMIT < out.len() {
-        return Answer::Refused(6, 0);
+        return Err(Refusal::Size);
     }
     sponge::shake256_into(input, out);
-    Answer::Done
+    Ok(())
 }
 
 // Whether none of the four lengths is above the limit.
@@ -50,10 +50,10 @@ pub fn kmac256(key: &[u8], input: &[u8], customization: &[u8], out: &mut [u8]) -
     ensures result { out.new ≡ kmac_left key.now input.now customization.now out.old }
 {
     if !all_within(key.len(), input.len(), customization.len(), out.len()) {
-        return Answer::Refused(6, 0);
+        return Err(Refusal::Size);
     }
     sponge::kmac256_into(key, input, customization, out);
-    Answer::Done
+    Ok(())
 }
 
 // KMACXOF256 as an open call.
@@ -62,8 +62,8 @@ pub fn kmacxof256(key: &[u8], input: &[u8], customization: &[u8], out: &mut [u8]
     ensures result { out.new ≡ kmacxof_left key.now input.now customization.now out.old }
 {
     if !all_within(key.len(), input.len(), customization.len(), out.len()) {
-        return Answer::Refused(6, 0);
+        return Err(Refusal::Size);
     }
     sponge::kmacxof256_into(key, input, customization, out);
-    Answer::Done
+    Ok(())
 }

@@ -5,22 +5,22 @@ ghost use Rattle.std.specs.Prelude.{◌≡◌, length};
 ghost use Rattle.calls.specs.Outcome.{outcome, accepted};
 ghost use Rattle.lent_draws.specs.Calls.{refuse_shape, residues_answer, residues_left, errors_answer, errors_left, multipliers_answer, multipliers_left};
 
-use calls::Answer;
+use calls::{Answer, Refusal};
 
 // The checks of the set and of how many results are wanted.
 fn check_shape(set: usize, wanted: usize) -> Answer
     ensures { outcome result ≡ refuse_shape set wanted accepted }
 {
     if set < 1 {
-        return Answer::Refused(1, 0);
+        return Err(Refusal::NoSuchSet);
     }
     if sets::LAST < set {
-        return Answer::Refused(1, 0);
+        return Err(Refusal::NoSuchSet);
     }
     if 4096 < wanted {
-        return Answer::Refused(2, 0);
+        return Err(Refusal::Length);
     }
-    Answer::Done
+    Ok(())
 }
 
 // Draws a uniform residue for each number of `out`.
@@ -29,17 +29,11 @@ pub fn residues(set: usize, bytes: &[u8], out: &mut [u32]) -> Answer
     ensures result { out.new ≡ residues_left set bytes.now out.old }
 {
     let wanted = out.len();
-    let shape = check_shape(set, wanted);
-    let Answer::Done = shape else {
-        return shape;
-    };
+    check_shape(set, wanted)?;
     let p = sets::parameters_of(set);
-    let answer = draws::uniform::look(bytes, p.q, p.zqrej, wanted);
-    let Answer::Done = answer else {
-        return answer;
-    };
+    draws::uniform::look(bytes, p.q, p.zqrej, wanted)?;
     draws::uniform::fill(bytes, p.q, p.zqrej, out);
-    Answer::Done
+    Ok(())
 }
 
 // Draws an error for each number of `out`.
@@ -48,15 +42,12 @@ pub fn errors(set: usize, bytes: &[u8], out: &mut [i32]) -> Answer
     ensures result { out.new ≡ errors_left set bytes.now out.old }
 {
     let wanted = out.len();
-    let shape = check_shape(set, wanted);
-    let Answer::Done = shape else {
-        return shape;
-    };
+    check_shape(set, wanted)?;
     if bytes.len() < wanted {
-        return Answer::Refused(4, bytes.len() as u32);
+        return Err(Refusal::BytesEnded(bytes.len() as u32));
     }
     draws::small::fill_errors(bytes, out);
-    Answer::Done
+    Ok(())
 }
 
 // Draws the multipliers from the position `first` on, one for each number of `out`, from the bytes of one whole sealing.
@@ -65,25 +56,22 @@ pub fn multipliers(set: usize, bytes: &[u8], first: usize, out: &mut [i32]) -> A
     ensures result { out.new ≡ multipliers_left set bytes.now first out.old }
 {
     let wanted = out.len();
-    let shape = check_shape(set, wanted);
-    let Answer::Done = shape else {
-        return shape;
-    };
+    check_shape(set, wanted)?;
     if wanted == 0 {
-        return Answer::Done;
+        return Ok(());
     }
     let p = sets::parameters_of(set);
     let count = sets::derived::multiplier_count(p);
     if count < wanted {
-        return Answer::Refused(2, 0);
+        return Err(Refusal::Length);
     }
     if count - wanted < first {
-        return Answer::Refused(2, 0);
+        return Err(Refusal::Length);
     }
     let ready = draws::small::lent_results(p, bytes, first, wanted);
     if ready < wanted {
-        return Answer::Refused(4, ready as u32);
+        return Err(Refusal::BytesEnded(ready as u32));
     }
     draws::small::fill_multipliers(p, bytes, first, out);
-    Answer::Done
+    Ok(())
 }

@@ -3,7 +3,7 @@ ghost use Rattle.std.specs.Prelude.{◌≡◌, ◌++◌, ◌+◌, ◌≤◌, len
 ghost use Rattle.calls.specs.Outcome.{outcome, accepted};
 ghost use Rattle.calls.specs.Checks.{refuse_first, below};
 
-use calls::Answer;
+use calls::{Answer, Refusal};
 
 // Refused at the first number that is `limit` or more, its place counted from `offset`.
 pub fn one_checked(xs: &[u32], limit: u32, offset: usize) -> Answer
@@ -12,9 +12,9 @@ pub fn one_checked(xs: &[u32], limit: u32, offset: usize) -> Answer
 {
     let i = calls::first_at_least(xs, limit);
     if i < xs.len() {
-        return Answer::Refused(3, (offset + i) as u32);
+        return Err(Refusal::OutOfRange((offset + i) as u32));
     }
-    Answer::Done
+    Ok(())
 }
 
 // Refused at the first number of `a`, then of `b`, that is `q` or more.
@@ -22,9 +22,6 @@ pub fn two_checked(a: &[u32], b: &[u32], q: u32) -> Answer
     requires { length a.now + length b.now ≤ 65536 }
     ensures { outcome result ≡ refuse_first (below q) 0 0 (a.now ++ b.now) accepted }
 {
-    let first = one_checked(a, q, 0);
-    match first {
-        Answer::Refused(number, place) => Answer::Refused(number, place),
-        Answer::Done => one_checked(b, q, a.len()),
-    }
+    one_checked(a, q, 0)?;
+    one_checked(b, q, a.len())
 }

@@ -9,7 +9,7 @@ ghost use Rattle.calls.specs.Checks.{all_of};
 ghost use Rattle.middle.specs.Operand.{Operand};
 ghost use Rattle.middle.specs.Calls.{middle_shape, middle_answer, middle_left};
 
-use calls::Answer;
+use calls::{Answer, Refusal};
 
 pub mod checks;
 pub mod places;
@@ -58,19 +58,14 @@ pub fn middle_product(set: usize, a: &[u32], b: &[u32], out: &mut [u32]) -> Answ
     ensures left { out.new ≡ middle_left set a.now b.now out.old }
 {
     if sets::LAST < set {
-        return Answer::Refused(1, 0);
+        return Err(Refusal::NoSuchSet);
     }
     let p = sets::parameters_of(set);
     let q = p.q;
     if !lengths_fit(a.len(), b.len(), out.len()) {
-        return Answer::Refused(6, 0);
+        return Err(Refusal::Size);
     }
-    let checked = checks::two_checked(a, b, q);
-    match checked {
-        Answer::Refused(number, place) => Answer::Refused(number, place),
-        Answer::Done => {
-            fill(a, b, q, out);
-            Answer::Done
-        }
-    }
+    checks::two_checked(a, b, q)?;
+    fill(a, b, q, out);
+    Ok(())
 }

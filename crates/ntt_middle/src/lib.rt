@@ -69,14 +69,9 @@ fn checked(p: Parameters, a: &[u32], b: &[u32], out: &mut [u32], work: &mut [u32
         ≡ leaves (numbers_checked_of p.q a.now b.now)
         (middle_product_of p.q a.now b.now (length out.old)) out.old }
 {
-    let numbers = middle::checks::two_checked(a, b, p.q);
-    match numbers {
-        Answer::Refused(number, place) => Answer::Refused(number, place),
-        Answer::Done => {
-            fill(p, a, b, out, work);
-            Answer::Done
-        }
-    }
+    middle::checks::two_checked(a, b, p.q)?;
+    fill(p, a, b, out, work);
+    Ok(())
 }
 
 // The middle product of `a` and `b` modulo a set's q, with as many results as `out` has places.
@@ -87,17 +82,14 @@ pub fn middle_product(set: usize, a: &[u32], b: &[u32], out: &mut [u32], work: &
         ≡ middle_work_left set (length a.now) (length b.now) (length out.old) work.old }
 {
     let p = sets::parameters_of(set);
-    let lengths = ntt_middle_checks::lengths_checked(
+    ntt_middle_checks::lengths_checked(
         set,
         p.d3,
         a.len(),
         b.len(),
         out.len(),
         work.len(),
-    );
-    let Answer::Done = lengths else {
-        return lengths;
-    };
+    )?;
     let answer = checked(p, a, b, out, work);
     calls::clear(work);
     answer

@@ -9,7 +9,7 @@ ghost use Rattle.calls.specs.Region.{over};
 ghost use Rattle.sets.specs.Table.{set_of};
 ghost use Rattle.ntt_middle_checks.specs.Checks.{transformed_shape, lengths_checked_of};
 
-use calls::Answer;
+use calls::{Answer, Refusal};
 
 // Whether the lengths of a middle product of `a` and `b` numbers with `d` results fit each other, and the work slice has its size.
 fn lengths_fit(size: usize, a: usize, b: usize, d: usize, work: usize) -> bool
@@ -28,15 +28,15 @@ pub fn lengths_checked(set: usize, size: usize, a: usize, b: usize, d: usize, wo
     ensures { outcome result ≡ lengths_checked_of set a b d work accepted }
 {
     if sets::LAST < set {
-        return Answer::Refused(1, 0);
+        return Err(Refusal::NoSuchSet);
     }
     if !lengths_fit(size, a, b, d, work) {
-        return Answer::Refused(6, 0);
+        return Err(Refusal::Size);
     }
     if size < b {
-        return Answer::Refused(7, 0);
+        return Err(Refusal::AboveTransform);
     }
-    Answer::Done
+    Ok(())
 }
 
 // Writes the numbers of `a`, last one first, to the front of `x`.

@@ -22,17 +22,14 @@ pub fn forward(
     ensures left { out.new ≡ partial_left set rows row m input.now out.old }
 {
     let p = sets::parameters_of(set);
-    let answer = ntt_partial_checks::checked(set, p, rows, row, m, input, out.len());
-    let Answer::Done = answer else {
-        return answer;
-    };
+    ntt_partial_checks::checked(set, p, rows, row, m, input, out.len())?;
     let i = ntt_partial_checks::size_number(p, rows, row);
     if row == 256 {
         ntt_partial_steps::forward_wide(p, i, m, input, out);
-        return Answer::Done;
+        return Ok(());
     }
     ntt_partial_steps::forward_plain(p, i, rows, row, m, input, out);
-    Answer::Done
+    Ok(())
 }
 
 // The first `m` of `rows` rows of what the input was made from, in the order of the whole inverse transform; the other rows of the output stay as they were.
@@ -48,16 +45,13 @@ pub fn inverse(
     ensures left { out.new ≡ partial_inverse_left set rows row m input.now out.old }
 {
     let p = sets::parameters_of(set);
-    let answer = ntt_partial_checks::checked(set, p, rows, row, m, input, out.len());
-    let Answer::Done = answer else {
-        return answer;
-    };
+    ntt_partial_checks::checked(set, p, rows, row, m, input, out.len())?;
     let i = ntt_partial_checks::size_number(p, rows, row);
     let end = m * row;
     if row == 256 {
         ntt_partial_steps::inverse_wide(p, i, m, input, &mut out[0..end]);
-        return Answer::Done;
+        return Ok(());
     }
     ntt_partial_steps::inverse_plain(p, i, rows, row, m, input, &mut out[0..end]);
-    Answer::Done
+    Ok(())
 }

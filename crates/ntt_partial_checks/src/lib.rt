@@ -7,7 +7,7 @@ ghost use Rattle.sets.specs.Table.{set_of};
 ghost use Rattle.sets.specs.Rules.{Rules};
 ghost use Rattle.ntt_partial_checks.specs.Checks.{size_number_of, partial_answer_of};
 
-use calls::Answer;
+use calls::{Answer, Refusal};
 use sets::Parameters;
 
 // Which transform of the set has rows · row places: 1, 2 or 3, or 0 where none has. A factor above 4,096 is refused before the product, which could wrap.
@@ -45,26 +45,26 @@ pub fn checked(
     ensures { outcome result ≡ partial_answer_of set rows row m input.now places }
 {
     if set < 1 {
-        return Answer::Refused(1, 0);
+        return Err(Refusal::NoSuchSet);
     }
     if sets::LAST < set {
-        return Answer::Refused(1, 0);
+        return Err(Refusal::NoSuchSet);
     }
     if m < 1 {
-        return Answer::Refused(11, 0);
+        return Err(Refusal::RowCount);
     }
     if rows < m {
-        return Answer::Refused(11, 0);
+        return Err(Refusal::RowCount);
     }
     if size_number(p, rows, row) == 0 {
-        return Answer::Refused(12, 0);
+        return Err(Refusal::NoTransform);
     }
     let size = rows * row;
     if input.len() != size {
-        return Answer::Refused(2, 0);
+        return Err(Refusal::Length);
     }
     if places != size {
-        return Answer::Refused(2, 0);
+        return Err(Refusal::Length);
     }
     middle::checks::one_checked(input, p.q, 0)
 }

@@ -7,7 +7,7 @@ ghost use Rattle.numbers.specs.Scheme as scheme;
 ghost use Rattle.sets.specs.Derived.{multiplier_bound_of};
 ghost use Rattle.numbers.specs.Calls.{is_multiplier_of};
 
-use calls::Answer;
+use calls::{Answer, Refusal};
 use sets::Parameters;
 
 // Whether `z` has size at most `limit`.
@@ -66,9 +66,9 @@ pub fn multipliers_checked(p: Parameters, rs: &[i32], offset: usize) -> Answer
 {
     let i = first_non_multiplier(p, rs);
     if i < rs.len() {
-        return Answer::Refused(3, (offset + i) as u32);
+        return Err(Refusal::OutOfRange((offset + i) as u32));
     }
-    Answer::Done
+    Ok(())
 }
 
 // Writes the residue of each number.

@@ -10,7 +10,7 @@ ghost use Rattle.numbers.specs.Operands.{KeyOperands};
 ghost use Rattle.numbers.specs.Scheme as scheme;
 ghost use Rattle.numbers.specs.Calls.{is_error, key_shape, key_range, key_answer, key_left};
 
-use calls::Answer;
+use calls::{Answer, Refusal};
 use middle::{checks, places};
 use numbers::{counts, signed};
 use sets::Parameters;
@@ -58,9 +58,9 @@ fn errors_checked(es: &[i32], eta: u32, offset: usize) -> Answer
 {
     let i = first_error(es, eta);
     if i < es.len() {
-        return Answer::Refused(3, (offset + i) as u32);
+        return Err(Refusal::OutOfRange((offset + i) as u32));
     }
-    Answer::Done
+    Ok(())
 }
 
 // Refused at the first number of `a`, then `s`, that is `q` or more, then at the first error of size above `eta`.
@@ -68,11 +68,8 @@ fn numbers_checked(a: &[u32], s: &[u32], e: &[i32], q: u32, eta: u32) -> Answer
     requires { (length a.now + length s.now + length e.now ≤ 65536) × (eta < 2 ^ 24) }
     ensures { outcome result ≡ key_range q eta a.now s.now e.now }
 {
-    let first = checks::two_checked(a, s, q);
-    match first {
-        Answer::Refused(number, place) => Answer::Refused(number, place),
-        Answer::Done => errors_checked(e, eta, a.len() + s.len()),
-    }
+    checks::two_checked(a, s, q)?;
+    errors_checked(e, eta, a.len() + s.len())
 }
 
 // The number at place `l` of b, which is place j of b_i for l = i · (d + k) + j.
@@ -109,20 +106,15 @@ pub fn key(set: usize, a: &[u32], s: &[u32], e: &[i32], b: &mut [u32]) -> Answer
     ensures left { b.new ≡ key_left set a.now s.now e.now b.old }
 {
     if sets::LAST < set {
-        return Answer::Refused(1, 0);
+        return Err(Refusal::NoSuchSet);
     }
     let p = sets::parameters_of(set);
     let q = p.q;
     let eta = p.eta;
     if !lengths_fit(p, a.len(), s.len(), e.len(), b.len()) {
-        return Answer::Refused(2, 0);
+        return Err(Refusal::Length);
     }
-    let checked = numbers_checked(a, s, e, q, eta);
-    match checked {
-        Answer::Refused(number, place) => Answer::Refused(number, place),
-        Answer::Done => {
-            fill(p, a, s, e, b);
-            Answer::Done
-        }
-    }
+    numbers_checked(a, s, e, q, eta)?;
+    fill(p, a, s, e, b);
+    Ok(())
 }

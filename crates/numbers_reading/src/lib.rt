@@ -13,7 +13,7 @@ ghost use Rattle.numbers.specs.Scheme as scheme;
 ghost use Rattle.numbers.specs.Scheme.{opened};
 ghost use Rattle.numbers.specs.Calls.{reading_shape, reading_range, reading_answer, reading_left};
 
-use calls::Answer;
+use calls::{Answer, Refusal};
 use middle::{checks, places};
 use sets::Parameters;
 
@@ -42,11 +42,8 @@ fn numbers_checked(c1: &[u32], c2: &[u32], s: &[u32], q: u32) -> Answer
     requires { length c1.now + length c2.now + length s.now ≤ 65536 }
     ensures { outcome result ≡ reading_range q c1.now c2.now s.now }
 {
-    let first = checks::two_checked(c1, c2, q);
-    match first {
-        Answer::Refused(number, place) => Answer::Refused(number, place),
-        Answer::Done => checks::one_checked(s, q, c1.len() + c2.len()),
-    }
+    checks::two_checked(c1, c2, q)?;
+    checks::one_checked(s, q, c1.len() + c2.len())
 }
 
 // The number w at place `j`.
@@ -78,19 +75,14 @@ pub fn reading(set: usize, c1: &[u32], c2: &[u32], s: &[u32], bits: &mut [u32]) 
     ensures left { bits.new ≡ reading_left set c1.now c2.now s.now bits.old }
 {
     if sets::LAST < set {
-        return Answer::Refused(1, 0);
+        return Err(Refusal::NoSuchSet);
     }
     let p = sets::parameters_of(set);
     let q = p.q;
     if !lengths_fit(p, c1.len(), c2.len(), s.len(), bits.len()) {
-        return Answer::Refused(2, 0);
+        return Err(Refusal::Length);
     }
-    let checked = numbers_checked(c1, c2, s, q);
-    match checked {
-        Answer::Refused(number, place) => Answer::Refused(number, place),
-        Answer::Done => {
-            fill(set, p, c1, c2, s, bits);
-            Answer::Done
-        }
-    }
+    numbers_checked(c1, c2, s, q)?;
+    fill(set, p, c1, c2, s, bits);
+    Ok(())
 }

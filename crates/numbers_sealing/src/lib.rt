@@ -11,7 +11,7 @@ ghost use Rattle.numbers.specs.Scheme.{sum_of_products, first_part_of, second_pa
 ghost use Rattle.numbers.specs.Calls.{sealing_shape, sealing_range, sealing_answer, first_part_left, second_part_left};
 ghost use Rattle.numbers_sealing_parts.specs.Finished.{finished};
 
-use calls::Answer;
+use calls::{Answer, Refusal};
 use middle::checks;
 use numbers::sums::sum_place;
 use numbers::{counts, signed};
@@ -49,16 +49,13 @@ fn numbers_checked(p: Parameters, a: &[u32], b: &[u32], r: &[i32], m: &[u32]) ->
     ensures { outcome result ≡ sealing_range p a.now b.now r.now m.now }
 {
     let q = p.q;
-    let first = checks::two_checked(a, b, q);
-    match first {
-        Answer::Refused(number, place) => Answer::Refused(number, place),
-        Answer::Done => numbers_sealing_parts::multipliers_and_message_checked(
+    checks::two_checked(a, b, q)?;
+    numbers_sealing_parts::multipliers_and_message_checked(
             p,
             r,
             m,
             a.len() + b.len(),
-        ),
-    }
+        )
 }
 
 // Writes c1 from the residues `rs` of the multipliers.
@@ -149,7 +146,7 @@ pub fn sealing(
         ≡ second_part_left set a.now b.now r.now message.now (length c1.old) c2.old }
 {
     if sets::LAST < set {
-        return Answer::Refused(1, 0);
+        return Err(Refusal::NoSuchSet);
     }
     let p = sets::parameters_of(set);
     if !lengths_fit(
@@ -161,14 +158,9 @@ pub fn sealing(
         c1.len(),
         c2.len(),
     ) {
-        return Answer::Refused(2, 0);
+        return Err(Refusal::Length);
     }
-    let checked = numbers_checked(p, a, b, r, message);
-    match checked {
-        Answer::Refused(number, place) => Answer::Refused(number, place),
-        Answer::Done => {
-            fill_both(p, a, b, r, message, c1, c2);
-            Answer::Done
-        }
-    }
+    numbers_checked(p, a, b, r, message)?;
+    fill_both(p, a, b, r, message, c1, c2);
+    Ok(())
 }

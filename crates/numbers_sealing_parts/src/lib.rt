@@ -21,11 +21,8 @@ pub fn multipliers_and_message_checked(p: Parameters, r: &[i32], m: &[u32], offs
     requires { Rules p × (offset + length r.now + length m.now ≤ 65536) }
     ensures { outcome result ≡ multipliers_and_message p offset r.now m.now }
 {
-    let first = signed::multipliers_checked(p, r, offset);
-    match first {
-        Answer::Refused(number, place) => Answer::Refused(number, place),
-        Answer::Done => checks::one_checked(m, 2, offset + r.len()),
-    }
+    signed::multipliers_checked(p, r, offset)?;
+    checks::one_checked(m, 2, offset + r.len())
 }
 
 // Finishes place `j` of c2: the sum of the middle products there, and h times the message bit.

@@ -61,11 +61,11 @@ pub fn bytes(rt: &impl Print, values: &[u8]) -> io::Result<()> {
 // Prints the answer of an open call: done, or refused with its number and place.
 pub fn answer(rt: &impl Print, given: Answer) -> io::Result<()> {
     match given {
-        Answer::Done => text(rt, b" done"),
-        Answer::Refused(refusal, place) => {
+        Ok(()) => text(rt, b" done"),
+        Err(refusal) => {
             text(rt, b" refused")?;
-            number(rt, refusal as u64)?;
-            number(rt, place as u64)
+            number(rt, refusal.number() as u64)?;
+            number(rt, refusal.place() as u64)
         }
     }
 }

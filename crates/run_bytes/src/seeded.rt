@@ -32,13 +32,13 @@ fn parameters(set: usize) -> Parameters
 // Prints the answer of a uniform draw: the counter afterwards, or the refusal.
 fn advance(rt: &impl Print, given: Advance) -> io::Result<()> {
     match given {
-        Advance::Counter(counter) => {
+        Ok(counter) => {
             report::text(rt, b" counter")?;
             report::number(rt, counter as u64)
         }
-        Advance::Refused(number) => {
+        Err(refusal) => {
             report::text(rt, b" refused")?;
-            report::number(rt, number as u64)
+            report::number(rt, refusal.at(0).number() as u64)
         }
     }
 }
@@ -93,15 +93,15 @@ fn multipliers_into(set: usize, seed: &[u8], out: &mut [u32])
 // Prints where a draw stands after a block; of a draw that is refused the results are not told.
 fn progress(rt: &impl Print, given: &Progress, out: &[u32]) -> io::Result<()> {
     match given {
-        Progress::Reached(done, run) => {
+        Ok((done, run)) => {
             report::text(rt, b" reached")?;
             report::number(rt, *done as u64)?;
             report::number(rt, *run as u64)?;
             report::number_sum(rt, out)
         }
-        Progress::Refused(number) => {
+        Err(refusal) => {
             report::text(rt, b" refused")?;
-            report::number(rt, *number as u64)
+            report::number(rt, refusal.at(0).number() as u64)
         }
     }
 }
@@ -112,7 +112,7 @@ fn next_block(set: usize, bytes: &[u8], done: usize, run: u32, out: &mut [u32]) 
     if done < out.len() && run < 128 && 3 <= bytes.len() {
         return samplers::block::continue_draw(bytes, p.q, p.zqrej, done, run, out);
     }
-    Progress::Reached(done, run)
+    Ok((done, run))
 }
 
 // Prints where a draw of 40 residues stands after each of two blocks of 384 bytes.
@@ -123,7 +123,7 @@ fn two_blocks(rt: &impl Print, line: [usize; 16], bytes: &[u8]) -> io::Result<()
     script::operands(rt, line, 2)?;
     let first = next_block(set, report::front(bytes, 384), 0, 0, &mut out);
     progress(rt, &first, &out)?;
-    if let Progress::Reached(done, run) = first {
+    if let Ok((done, run)) = first {
         let second = next_block(set, report::part(bytes, 384, 384), done, run, &mut out);
         progress(rt, &second, &out)?;
     }

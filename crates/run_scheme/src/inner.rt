@@ -1,30 +1,30 @@
 // What no open call shows: the numbers of c2 before packing, and what decapsulation reads, of which it shows only whether it is encrypted again to the same
 // ciphertext.
 use crate::store;
-use calls::Answer;
+use calls::{Answer, Refusal};
 use report::script::Command;
 use std::io;
 
 // Reads a ciphertext of Titanium-CPA, where every slice has the set's length.
 fn read(set: usize, seed: &[u8], sealed: &[u8], message: &mut [u8], work: &mut [u32]) -> Answer {
     if set < 1 {
-        return Answer::Refused(1, 0);
+        return Err(Refusal::NoSuchSet);
     }
     if sets::LAST < set {
-        return Answer::Refused(1, 0);
+        return Err(Refusal::NoSuchSet);
     }
     let p = sets::parameters_of(set);
     if seed.len() != 32 {
-        return Answer::Refused(2, 0);
+        return Err(Refusal::Length);
     }
     if sealed.len() != sets::derived::cpa_ciphertext_bytes(p) {
-        return Answer::Refused(2, 0);
+        return Err(Refusal::Length);
     }
     if message.len() != 32 {
-        return Answer::Refused(2, 0);
+        return Err(Refusal::Length);
     }
     if work.len() != scheme::work_length(p) {
-        return Answer::Refused(2, 0);
+        return Err(Refusal::Length);
     }
     cpa_decrypt::decrypt(p, seed, sealed, message, work)
 }

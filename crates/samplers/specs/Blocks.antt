@@ -1,14 +1,11 @@
 -- Uniform residues from a state of the byte source, one output after the other (003, section 2.2.3, algorithm 8).
 -- Assumes nothing.
-use Rattle.std.specs.Prelude.{◌≡◌, refl, List, [], ◌∷◌, ℕ, zero, suc, ◌+◌, length}
+use Rattle.std.specs.Prelude.{◌≡◌, refl, List, [], ◌∷◌, ℕ, zero, suc, ◌+◌, length, Result, Ok, Err}
 use Rattle.calls.specs.Region.{over}
 use Rattle.sets.specs.declared.Parameters.{Parameters}
-use Rattle.draws.specs.Uniform.{candidates, Drawn, taken, ended, exhausted, accept, resume}
+use Rattle.draws.specs.declared.DrawRefusal.{DrawRefusal}
+use Rattle.draws.specs.Uniform.{draw_number, candidates, Drawn, taken, ended, exhausted, accept, resume}
 use Rattle.byte_source.specs.Source.{State, state_at, output}
-use Rattle.samplers.specs.declared.Progress.{Progress}
-use Rattle.samplers.specs.declared.Progress.TheVariants as progress
-use Rattle.samplers.specs.declared.Advance.{Advance}
-use Rattle.samplers.specs.declared.Advance.TheVariants as advance
 
 -- a draw from a state of the byte source: what was drawn, and the state afterwards
 pub record Sampled : Type 0 where
@@ -43,14 +40,9 @@ pub data Onward : Type 0 where
   refusal : ℕ → Onward
 
 -- the papers' answer for each case of the code's answer to a draw from a seed
-abbrev pub onward : List ℕ → Advance → Onward
-onward seed (advance.Counter counter) = onto (state_at seed counter)
-onward seed (advance.Refused number) = refusal number
-
--- the number of the refusal, and 0 where there is none
-abbrev pub refused_by : Advance → ℕ
-refused_by (advance.Counter counter) = 0
-refused_by (advance.Refused number) = number
+abbrev pub onward : List ℕ → Result ℕ DrawRefusal → Onward
+onward seed (Ok counter) = onto (state_at seed counter)
+onward seed (Err draw) = refusal (draw_number draw)
 
 -- the answer with the state afterwards; as for lent bytes, 4 where the candidates ended, which does not happen with the blocks of a set
 -- (`uniform_never_ends`), and 5 where one result's 128th in a row was set aside
@@ -69,14 +61,9 @@ pub data Standing : Type 0 where
   stopped : ℕ → Standing
 
 -- the same for each case of the code's answer
-abbrev pub standing : Progress → Standing
-standing (progress.Reached done run) = reached done run
-standing (progress.Refused number) = stopped number
-
--- the number of the refusal, and 0 where there is none
-abbrev pub stopped_by : Standing → ℕ
-stopped_by (reached done run) = 0
-stopped_by (stopped number) = number
+abbrev pub standing : Result (ℕ × ℕ) DrawRefusal → Standing
+standing (Ok progress) = reached progress.0 progress.1
+standing (Err draw) = stopped (draw_number draw)
 
 -- where a draw stands that goes on over one block after some results were done
 abbrev pub standing_after : ℕ → Drawn → Standing

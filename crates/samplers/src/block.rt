@@ -1,34 +1,24 @@
 // Uniform draws, block after block (specs/Blocks.antt).
 ghost use Rattle.std.specs.Prelude.{◌≡◌, cond, List, ℕ, ◌+◌, ◌-◌, ◌*◌, ◌/◌, ◌^◌, ◌≤◌, ◌<◌, eqb, length};
 ghost use Rattle.sets.specs.Rules.{Rules};
-ghost use Rattle.draws.specs.Uniform.{candidates, taken, accept};
+ghost use Rattle.draws.specs.Uniform.{draw_number, candidates, taken, accept};
 ghost use Rattle.byte_source.specs.Source.{state_at};
 ghost use Rattle.samplers.specs.Blocks.{uniform, onward, uniform_answer};
-ghost use Rattle.samplers.specs.Blocks.{reached, stopped, standing, stopped_by, standing_after, Written};
+ghost use Rattle.samplers.specs.Blocks.{reached, stopped, standing, standing_after, Written};
 
 use crate::{Advance, Progress};
-use draws::Draw;
+use draws::DrawRefusal;
 use sets::Parameters;
 
-// Where a draw stands when its next result is refused: by 4 the block ended, and the candidates of the bytes left in it were all set aside.
-fn stopped_at(number: u8, done: usize, run: u32, left: usize) -> Progress
-    requires { number ≡ 4 → run + left / 3 < 128 }
-    ensures { standing result ≡ cond (eqb number 4) (reached done (run + left / 3)) (stopped number) }
+// Where a draw stands when its next result is refused: where the block ended, the candidates of the bytes left in it were all set aside.
+fn stopped_at(refusal: DrawRefusal, done: usize, run: u32, left: usize) -> Progress
+    requires { draw_number refusal ≡ 4 → run + left / 3 < 128 }
+    ensures { standing result
+        ≡ cond (eqb (draw_number refusal) 4) (reached done (run + left / 3)) (stopped (draw_number refusal)) }
 {
-    if number == 4 {
-        Progress::Reached(done, run + (left / 3) as u32)
-    } else {
-        Progress::Refused(number)
-    }
-}
-
-// The number of the refusal in a block, and 0 where there is none.
-pub fn refusal_of(progress: Progress) -> u8
-    ensures { result ≡ stopped_by (standing progress) }
-{
-    match progress {
-        Progress::Reached(_, _) => 0,
-        Progress::Refused(number) => number,
+    match refusal {
+        DrawRefusal::BytesEnded => Ok((done, run + (left / 3) as u32)),
+        DrawRefusal::SetAside => Err(refusal),
     }
 }
 
@@ -48,24 +38,17 @@ pub fn continue_draw(
         out.old out.new }
 {
     let mut position: usize = 0;
-    let mut done = from;
     let mut run = before;
-    while done < out.len() {
+    for done in from..out.len() {
         let drawn = draws::uniform::draw_one(bytes, position, q, threshold, run);
-        let Draw::Number(residue, next) = drawn else {
-            return stopped_at(
-                draws::uniform::refusal_of(drawn),
-                done,
-                run,
-                bytes.len() - position,
-            );
+        let Ok((residue, next)) = drawn else {
+            return stopped_at(drawn.unwrap_err(), done, run, bytes.len() - position);
         };
         out[done] = residue;
-        done += 1;
         position = next;
         run = 0;
     }
-    Progress::Reached(done, 0)
+    Ok((out.len(), 0))
 }
 
 // Draws a uniform residue for each number of `out`, block after block, each an output of the source that is read into `bytes`.
@@ -89,12 +72,9 @@ pub fn residues_with_buffers(
     let mut run: u32 = 0;
     loop {
         counter = byte_source::source_bytes(p, seed, counter, bytes);
-        let progress = continue_draw(bytes, p.q, p.zqrej, done, run, out);
-        let Progress::Reached(reached, aside) = progress else {
-            return Advance::Refused(refusal_of(progress));
-        };
+        let (reached, aside) = continue_draw(bytes, p.q, p.zqrej, done, run, out)?;
         if reached == out.len() {
-            return Advance::Counter(counter);
+            return Ok(counter);
         }
         done = reached;
         run = aside;

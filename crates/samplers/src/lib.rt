@@ -7,37 +7,20 @@ ghost use Rattle.sets.specs.Rules.{Rules, ByteRules};
 ghost use Rattle.sets.specs.Derived.{multiplier_count_of, error_draw_bytes_of, error_count_of};
 ghost use Rattle.draws.specs.Uniform.{taken};
 ghost use Rattle.byte_source.specs.Source.{state_at};
-ghost use Rattle.samplers.specs.Blocks.{onward, refused_by, uniform, uniform_answer};
+ghost use Rattle.samplers.specs.Blocks.{onward, uniform, uniform_answer};
 ghost use Rattle.samplers.specs.Seeded.{errors_drawn, multipliers_drawn};
 
+use draws::DrawRefusal;
 use sets::Parameters;
 
 pub mod block;
 mod small;
 
-// What a uniform draw from a seed answers: the counter afterwards, or the number of a refusal.
-#[derive(Drop)]
-pub enum Advance {
-    Counter(u32),
-    Refused(u8),
-}
+// What a uniform draw from a seed answers: the counter afterwards.
+pub type Advance = Result<u32, DrawRefusal>;
 
-// The number of a draw's refusal, and 0 where it is none.
-pub fn refusal_of(advance: Advance) -> u8
-    ensures { result ≡ refused_by advance }
-{
-    match advance {
-        Advance::Counter(_) => 0,
-        Advance::Refused(number) => number,
-    }
-}
-
-// What one block of a uniform draw answers: so many results are there, with a run of candidates set aside since, or the number of a refusal.
-#[derive(Drop)]
-pub enum Progress {
-    Reached(usize, u32),
-    Refused(u8),
-}
+// What one block of a uniform draw answers: how many results are there, with a run of candidates set aside since.
+pub type Progress = Result<(usize, u32), DrawRefusal>;
 
 // Draws a uniform residue for each number of `out`, from outputs of `size` bytes, the first of them with the counter `first`.
 pub fn residues_from(

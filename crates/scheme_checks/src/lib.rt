@@ -8,7 +8,7 @@ ghost use Rattle.sets.specs.Table.{set_of};
 ghost use Rattle.sets.specs.Derived.{is_of};
 ghost use Rattle.scheme.specs.Answers.{refuse_set, key_checks, encrypt_checks, decrypt_checks, round_trip_checks};
 
-use calls::Answer;
+use calls::{Answer, Refusal};
 use sets::Parameters;
 
 // Refused with 1 when the set is not 1 to 12, with 8 when it is not one of the scheme with this number.
@@ -17,15 +17,15 @@ fn set_checked(number: u32, set: usize, p: Parameters) -> Answer
     ensures { outcome result ≡ refuse_set (is_of number) set accepted }
 {
     if set < 1 {
-        return Answer::Refused(1, 0);
+        return Err(Refusal::NoSuchSet);
     }
     if sets::LAST < set {
-        return Answer::Refused(1, 0);
+        return Err(Refusal::NoSuchSet);
     }
     if p.scheme != number {
-        return Answer::Refused(8, 0);
+        return Err(Refusal::OtherScheme);
     }
-    Answer::Done
+    Ok(())
 }
 
 // Refused with 2 when seeds, messages, keys or shared keys do not fit, then with 9 when the ciphertext does not, then with 10 when the work slice does not.
@@ -33,15 +33,15 @@ fn lengths_checked(slices: bool, ciphertext: bool, work: bool) -> Answer
     ensures { outcome result ≡ refuse (not slices) 2 0 (refuse (not ciphertext) 9 0 (refuse (not work) 10 0 accepted)) }
 {
     if !slices {
-        return Answer::Refused(2, 0);
+        return Err(Refusal::Length);
     }
     if !ciphertext {
-        return Answer::Refused(9, 0);
+        return Err(Refusal::CiphertextLength);
     }
     if !work {
-        return Answer::Refused(10, 0);
+        return Err(Refusal::WorkLength);
     }
-    Answer::Done
+    Ok(())
 }
 
 // The checks of key, which has no ciphertext.
@@ -57,10 +57,7 @@ pub fn key_checked(
     requires { p ≡ set_of set }
     ensures { outcome result ≡ key_checks (is_of number) set seed public secret work }
 {
-    let checked = set_checked(number, set, p);
-    let Answer::Done = checked else {
-        return checked;
-    };
+    set_checked(number, set, p)?;
     let slices = (seed == 32)
         & (public == sets::derived::public_key_bytes(p))
         & (secret == sets::derived::secret_key_bytes(p));
@@ -81,10 +78,7 @@ pub fn encrypt_checked(
     requires { p ≡ set_of set }
     ensures { outcome result ≡ encrypt_checks (is_of number) set public message other ciphertext work }
 {
-    let checked = set_checked(number, set, p);
-    let Answer::Done = checked else {
-        return checked;
-    };
+    set_checked(number, set, p)?;
     let slices = (public == sets::derived::public_key_bytes(p)) & (message == 32) & (other == 32);
     lengths_checked(
         slices,
@@ -106,10 +100,7 @@ pub fn decrypt_checked(
     requires { p ≡ set_of set }
     ensures { outcome result ≡ decrypt_checks (is_of number) set secret ciphertext given work }
 {
-    let checked = set_checked(number, set, p);
-    let Answer::Done = checked else {
-        return checked;
-    };
+    set_checked(number, set, p)?;
     let slices = (secret == sets::derived::secret_key_bytes(p)) & (given == 32);
     lengths_checked(
         slices,
@@ -135,10 +126,7 @@ pub fn round_trip_checked(
     requires { p ≡ set_of set }
     ensures { outcome result ≡ round_trip_checks (is_of number) set seed message other given public secret ciphertext work }
 {
-    let checked = set_checked(number, set, p);
-    let Answer::Done = checked else {
-        return checked;
-    };
+    set_checked(number, set, p)?;
     let fixed = (seed == 32) & (message == 32) & (other == 32) & (given == 32);
     let slices = fixed
         & (public == sets::derived::public_key_bytes(p))

@@ -36,7 +36,7 @@ pub fn seal_and_read(
         public.old secret.old sealed.old read.old work.old }
     ensures claim { outcome result ≡ accepted → Demand3 set (encryption seed.now message.now sealing.now) }
 {
-    let checked = scheme_checks::round_trip_checked(
+    scheme_checks::round_trip_checked(
         sets::ENCRYPTION,
         set,
         sets::parameters_of(set),
@@ -48,14 +48,9 @@ pub fn seal_and_read(
         secret.len(),
         sealed.len(),
         work.len(),
-    );
-    let Answer::Done = checked else {
-        return checked;
-    };
+    )?;
     let made = encryption::key(set, seed, public, secret, work);
-    let Answer::Done = made else {
-        return made;
-    };
+    made?;
     encryption::encrypt(set, public, message, sealing, sealed, work);
     encryption::decrypt(set, secret, sealed, read, work)
 }

@@ -38,7 +38,7 @@ pub fn share_a_key(
         public.old secret.old sealed.old sent.old received.old work.old }
     ensures claim { outcome result ≡ accepted → Demand3 set (exchange seed.now message.now) }
 {
-    let checked = scheme_checks::round_trip_checked(
+    scheme_checks::round_trip_checked(
         sets::EXCHANGE,
         set,
         sets::parameters_of(set),
@@ -50,14 +50,9 @@ pub fn share_a_key(
         secret.len(),
         sealed.len(),
         work.len(),
-    );
-    let Answer::Done = checked else {
-        return checked;
-    };
+    )?;
     let made = exchange::key(set, seed, public, secret, work);
-    let Answer::Done = made else {
-        return made;
-    };
+    made?;
     exchange::encapsulate(set, public, message, sealed, sent, work);
     exchange::decapsulate(set, secret, sealed, received, work)
 }

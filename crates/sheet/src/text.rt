@@ -28,8 +28,8 @@ fn write_rows(
 {
     let answer = sheet_rows::fill(set, p, input, noise, sent, read, work);
     match answer {
-        Answer::Done => sheet_parts::write_accepted(p, noise, sent, read, out),
-        Answer::Refused(number, place) => sheet_text::write_refused(number, place, out),
+        Ok(()) => sheet_parts::write_accepted(p, noise, sent, read, out),
+        Err(refusal) => sheet_text::write_refused(refusal.number(), refusal.place(), out),
     }
 }
 
@@ -68,7 +68,7 @@ pub fn write(input: &[u8], out: &mut [u8], work: &mut [u32]) -> usize
     let p = sets::parameters_of(set);
     let checked = sheet_parts::checked(set, p, input);
     match checked {
-        Answer::Done => write_checked(set, p, input, out, work),
-        Answer::Refused(number, place) => sheet_text::write_refused(number, place, out),
+        Ok(()) => write_checked(set, p, input, out, work),
+        Err(refusal) => sheet_text::write_refused(refusal.number(), refusal.place(), out),
     }
 }

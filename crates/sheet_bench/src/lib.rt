@@ -9,7 +9,7 @@ ghost use Rattle.calls.specs.Outcome.{outcome, accepted, leaves};
 ghost use Rattle.sheet_bench.specs.Bench.{bench_answer, bench_noise, bench_message, bench_read};
 
 use crate::bytes::{copy_numbers, first_unfit};
-use calls::Answer;
+use calls::{Answer, Refusal};
 
 // Writes the rows of an input in range.
 fn fill(input: &[u8], noise: &mut [i64], sent: &mut [u32], read: &mut [u32])
@@ -32,8 +32,8 @@ pub fn bench_rows(input: &[u8], noise: &mut [i64], sent: &mut [u32], read: &mut 
 {
     let place = first_unfit(input);
     if place < input.len() {
-        return Answer::Refused(3, place as u32);
+        return Err(Refusal::OutOfRange(place as u32));
     }
     fill(input, noise, sent, read);
-    Answer::Done
+    Ok(())
 }

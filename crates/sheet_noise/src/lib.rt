@@ -13,7 +13,6 @@ ghost use Rattle.scheme.specs.Encryption.{secret_seed, public_key};
 ghost use Rattle.scheme.specs.Noise as scheme;
 ghost use Rattle.sheet_noise.specs.Centred.{Residues, ErrorsHeld, Held, centred_noise, drawn_noise};
 
-use samplers::Advance;
 use sets::Parameters;
 
 mod whole;
@@ -53,7 +52,7 @@ fn draw_errors(p: Parameters, secret: &[u8], work: &mut [u32])
 {
     let size = p.d3;
     let count = sets::derived::error_count(p);
-    let Advance::Counter(counter) = samplers::residues_from(
+    let Ok(counter) = samplers::residues_from(
         p,
         secret,
         p.bytpcs,

@@ -12,7 +12,7 @@ ghost use Rattle.sheet_text.specs.Written.{Sealing};
 ghost use Rattle.sheet_parts.specs.Checks.{has_sheet_of, input_bytes_of, set_byte_of, input_answer};
 ghost use Rattle.sheet_parts.specs.Printed.{Printed};
 
-use calls::Answer;
+use calls::{Answer, Refusal};
 use sets::Parameters;
 
 // The set byte.
@@ -50,12 +50,12 @@ pub fn checked(set: usize, p: Parameters, input: &[u8]) -> Answer
     ensures { outcome result ≡ input_answer input.now accepted }
 {
     if !has_sheet(set, p) {
-        return Answer::Refused(1, 0);
+        return Err(Refusal::NoSuchSet);
     }
     if input.len() != input_bytes(set) {
-        return Answer::Refused(2, 0);
+        return Err(Refusal::Length);
     }
-    Answer::Done
+    Ok(())
 }
 
 // Writes the sheet of these rows.

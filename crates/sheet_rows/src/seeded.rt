@@ -32,13 +32,10 @@ fn read_message(
     ensures read { outcome result ≡ accepted
         → opened.new ≡ message_read p seed.now message.now sealing.now }
 {
-    let answer = cpa_keygen::keygen(p, seed, public, secret, work);
-    let Answer::Done = answer else {
-        return answer;
-    };
+    cpa_keygen::keygen(p, seed, public, secret, work)?;
     cpa_encrypt::encrypt(p, public, message, sealing, ciphertext, work);
     cpa_decrypt::decrypt(p, secret, ciphertext, opened, work);
-    answer
+    Ok(())
 }
 
 // Writes the rows, with slices for the keys, the ciphertext and the message read.
@@ -65,16 +62,13 @@ fn rows_with_buffers(
         → SeededRows p seed.now message.now sealing.now noise.new sent.new
         read.new }
 {
-    let answer = read_message(
+    read_message(
         p, seed, message, sealing, public, secret, ciphertext, opened, work,
-    );
-    let Answer::Done = answer else {
-        return answer;
-    };
+    )?;
     sheet_noise::noise_of(p, seed, message, sealing, public, noise, work);
     packing::bits_of(message, sent);
     packing::bits_of(opened, read);
-    answer
+    Ok(())
 }
 
 // Writes the rows of a key seed, a message and a sealing seed.

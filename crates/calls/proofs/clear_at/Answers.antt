@@ -1,18 +1,14 @@
--- `calls::clear_at` meets its contract: after i turns the first i of n zeros stand in place.
+-- `calls::clear_at` meets its contract: a part of the slice was lent and came back as zeros.
 -- Assumes nothing.
-use mathlib.Core.Path.{refl, sym}
-use Prim.Native.Nat.{◌-◌}
-use lib.ListN.{length-replicate, get_or-replicate}
-use Rattle.calls.proofs.Filled.{filled_none, filled_more, filled_all}
+use mathlib.Core.Path.{◌≡◌, refl, sym, ap, ◌∙◌}
+use Prim.Native.Nat.{ℕ, ◌+◌}
+use native.Mathlib.Omega.{arith}
+use lib.ListN.{replicate, length-replicate}
+use Rattle.calls.proofs.Region.{over_lent, region_part, region_length}
 use Rattle.calls.proofs.clear_at.Goals as goal
 
-pub loop-i-init : goal.loop-i-init
-loop-i-init c = filled_none (length-replicate _ 0) c.requires
-
-pub loop-i-preserved : goal.loop-i-preserved
-loop-i-preserved c =
-    filled_more 0 c.loop-i.invariant c.loop-i-test.true refl
-    (sym (get_or-replicate c.args.n c.loop-i.i 0 0 c.loop-i-test.true))
-
 pub returns : goal.returns
-returns c = filled_all c.loop-i.invariant c.loop-i-test.false
+returns c =
+    let whole = region_part c.args.work.now c.args.at c.args.n (c.args.at + c.args.n) refl in
+    let zeros : c.fill.new.self ≡ replicate {A = ℕ} c.args.n 0 = c.fill.ensures.after (λ y e. e) ∙ rw (whole, region_length c.args.work.now c.args.at c.args.n c.requires) refl in
+    rw zeros (over_lent c.args.work.now c.args.at (replicate c.args.n 0) (c.args.at + c.args.n) (ap (λ (n : ℕ). c.args.at + n) (sym (length-replicate {A = ℕ} c.args.n 0))))

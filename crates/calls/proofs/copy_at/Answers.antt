@@ -1,15 +1,8 @@
--- `calls::copy_at` meets its contract: after i turns the first i bytes of `src` stand in place.
+-- `calls::copy_at` meets its contract: a part of the slice was lent and came back as `src`.
 -- Assumes nothing.
-use mathlib.Core.Path.{refl}
-use Prim.Native.Nat.{◌-◌}
-use Rattle.calls.proofs.Filled.{filled_none, filled_more, filled_all}
+use native.Mathlib.Omega.{arith}
+use Rattle.calls.proofs.Region.{over_lent}
 use Rattle.calls.proofs.copy_at.Goals as goal
 
-pub loop-i-init : goal.loop-i-init
-loop-i-init c = filled_none refl c.requires
-
-pub loop-i-preserved : goal.loop-i-preserved
-loop-i-preserved c = filled_more 0 c.loop-i.invariant c.loop-i-test.true refl refl
-
 pub returns : goal.returns
-returns c = filled_all c.loop-i.invariant c.loop-i-test.false
+returns c = rw c.copy_from_slice.ensures.after (over_lent c.args.dst.now c.args.at c.args.src.now _ (omega arith))

@@ -1,8 +1,9 @@
 -- `draws::uniform::look` meets its contract: each turn draws one result, and the first refusal is the answer.
 -- Assumes nothing.
 use mathlib.Core.Path.{sym, ap, ◌∙◌}
+use native.Mathlib.Omega.{arith}
 use Prim.Native.Nat.{◌-◌}
-use Rattle.draws.specs.Uniform.{sample, refusal, refusal_of_value}
+use Rattle.draws.specs.Uniform.{sample, draw_number}
 use Rattle.draws.proofs.Results.{looking_none, looking_more, looking_refused, looking_all}
 use Rattle.draws.proofs.uniform.look.Goals as goal
 
@@ -11,15 +12,13 @@ loop-i-init c = looking_none _ _ _ _
 
 pub returns-in_default : goal.returns-in_default
 returns-in_default c =
-    let drawn = c.draw_one-drawn.ensures in
-    let told = ap sample c.in_default.is in
-    looking_refused c.loop-i.invariant c.refusal_of.result c.loop-i-test.true
-    (sym drawn ∙ told ∙ ap refusal (sym (c.refusal_of.ensures ∙ ap refusal_of_value told)))
+    let told = ap sample c.unwrap_err.ensures in
+    c.at.ensures ∙ looking_refused c.loop-i.invariant (draw_number c.unwrap_err.result) (omega arith) (sym c.draw_one-drawn.ensures ∙ told)
 
 pub loop-i-preserved : goal.loop-i-preserved
 loop-i-preserved c =
-    looking_more c.loop-i.invariant c.in-Number.field-0 c.in-Number.next c.loop-i-test.true
-    (sym c.draw_one-drawn.ensures ∙ ap sample c.in-Number.is)
+    looking_more c.loop-i.invariant c.in-Ok.field-0-0 c.in-Ok.next (omega arith)
+    (sym c.draw_one-drawn.ensures ∙ ap sample c.in-Ok.is)
 
 pub returns : goal.returns
-returns c = looking_all c.loop-i.invariant c.loop-i-test.false
+returns c = looking_all c.loop-i.invariant (omega arith)

@@ -6,6 +6,3 @@ use Rattle.draws.proofs.uniform.look.Given as goal
 
 abbrev pub invariant-loop-i : goal.invariant-loop-i
 invariant-loop-i l = Looking l.bytes l.q l.threshold l.wanted l.position l.i
-
-abbrev pub decreases-loop-i : goal.decreases-loop-i
-decreases-loop-i l = l.wanted - l.i

@@ -7,6 +7,3 @@ use Rattle.samplers.proofs.block.continue_draw.Given as goal
 
 abbrev pub invariant-loop-done : goal.invariant-loop-done
 invariant-loop-done l = Continuing l.bytes l.q l.threshold l.from l.before l.initial.out l.position l.done l.run l.out
-
-abbrev pub decreases-loop-done : goal.decreases-loop-done
-decreases-loop-done l = length l.initial.out - l.done

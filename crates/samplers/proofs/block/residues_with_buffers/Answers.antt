@@ -3,7 +3,7 @@
 use mathlib.Core.Path.{refl, sym, ap, ◌∙◌}
 use Prim.Native.Nat.{◌-◌}
 use native.Mathlib.Omega.{arith}
-use Rattle.samplers.specs.Blocks.{standing, stopped, stopped_by}
+use Rattle.std.proofs.lemmas.Result.{err_from_is_err_and}
 use Rattle.samplers.proofs.Drawing.{drawing_none, drawing_fits, drawing_rises, drawing_more, drawing_all, drawing_refused}
 use borrow.Author.Rules.{rules}
 use Rattle.samplers.proofs.block.residues_with_buffers.Goals as goal
@@ -16,25 +16,24 @@ source_bytes-counter-requires c =
     let pre = c.requires in
     (pre.rules.1, rw c.loop-reached.invariant.0 (drawing_fits c.loop-reached.invariant.1 pre.rules.3 pre.out_nonzero.1))
 
-pub continue_draw-progress-requires : goal.continue_draw-progress-requires
-continue_draw-progress-requires c =
+pub continue_draw-requires : goal.continue_draw-requires
+continue_draw-requires c =
     let inv = c.loop-reached.invariant.1 in
     let pre = c.requires in
     (omega (arith, pre.rules.0.prime.above), search rules, omega (arith, inv.kept, inv.unfinished), inv.less)
 
-pub returns-in_default : goal.returns-in_default
-returns-in_default c =
-    let told = ap standing c.in_default.is in
-    let number = c.refusal_of.ensures ∙ ap stopped_by told in
+pub returns-in_err-reached : goal.returns-in_err-reached
+returns-in_err-reached c =
+    let same = err_from_is_err_and c.from_residual.result c.from_residual.ensures.1 in
     let whole = drawing_refused c.loop-reached.invariant.1 _ _ (rw c.loop-reached.invariant.0 at c.source_bytes-counter.ensures.bytes)
-    (rw c.loop-reached.invariant.0 at c.source_bytes-counter.ensures.state) _ _ (ap stopped number ∙ sym told ∙ c.continue_draw-progress.ensures.answer) in
-    record { answer = whole.0; result = whole.1 }
+    (rw c.loop-reached.invariant.0 at c.source_bytes-counter.ensures.state) _ _ c.in_err-reached.ensures.answer in
+    record { answer = rw (same.1, same.2) whole.0; result = whole.1 }
 
 pub returns-then-reached-out : goal.returns-then-reached-out
 returns-then-reached-out c =
     let whole = drawing_all c.loop-reached.invariant.1 _ _ (rw c.loop-reached.invariant.0 at c.source_bytes-counter.ensures.bytes)
     (rw c.loop-reached.invariant.0 at c.source_bytes-counter.ensures.state) _ _ _ (search rules) c.if-reached-out.true
-    (sym (ap standing c.in-Reached.is) ∙ c.continue_draw-progress.ensures.answer) c.continue_draw-progress.ensures.result in
+    c.in_ok-reached.ensures.answer c.in_ok-reached.ensures.result in
     record { answer = whole.0; result = whole.1 }
 
 pub loop-reached-smaller : goal.loop-reached-smaller
@@ -42,7 +41,7 @@ loop-reached-smaller c =
     let rises =
     drawing_rises c.loop-reached.invariant.1 _ _ (rw c.loop-reached.invariant.0 at c.source_bytes-counter.ensures.bytes)
     (rw c.loop-reached.invariant.0 at c.source_bytes-counter.ensures.state) _ _ _ c.requires.rules.2 (search rules) c.if-reached-out.false
-    (sym (ap standing c.in-Reached.is) ∙ c.continue_draw-progress.ensures.answer) c.continue_draw-progress.ensures.result in
+    c.in_ok-reached.ensures.answer c.in_ok-reached.ensures.result in
     omega (arith, rises, c.loop-reached.invariant.1.unfinished)
 
 pub loop-reached-preserved : goal.loop-reached-preserved
@@ -50,5 +49,5 @@ loop-reached-preserved c = (
   search rules,
   drawing_more c.loop-reached.invariant.1 _ _ (rw c.loop-reached.invariant.0 at c.source_bytes-counter.ensures.bytes)
       (rw c.loop-reached.invariant.0 at c.source_bytes-counter.ensures.state) _ _ _ c.requires.rules.2 (search rules) c.if-reached-out.false
-      (sym (ap standing c.in-Reached.is) ∙ c.continue_draw-progress.ensures.answer) c.continue_draw-progress.ensures.result,
+      c.in_ok-reached.ensures.answer c.in_ok-reached.ensures.result,
 )
