@@ -61,7 +61,8 @@ impl Refusal {
         ensures { result ≡ place_of self }
     {
         match self {
-            Refusal::OutOfRange(place) | Refusal::BytesEnded(place) | Refusal::SetAside(place) => place,
+            Refusal::OutOfRange(place) | Refusal::BytesEnded(place) | Refusal::SetAside(place) =>
+                place,
             _ => 0,
         }
     }

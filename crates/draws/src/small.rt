@@ -91,14 +91,12 @@ pub fn lent_results(p: Parameters, bytes: &[u8], first: usize, wanted: usize) ->
     requires { Rules p × ByteRules p × (first + wanted ≤ multiplier_count_of p) }
     ensures { result ≡ lent_results_of p bytes.now first wanted }
 {
-    let mut i: usize = 0;
-    while i < wanted {
+    for i in 0..wanted {
         if !is_lent(p, bytes, first + i) {
             return i;
         }
-        i += 1;
     }
-    i
+    wanted
 }
 
 // Draws the multipliers from the first position on, whose bytes are all lent.
@@ -107,10 +105,8 @@ pub fn fill_multipliers(p: Parameters, bytes: &[u8], first: usize, out: &mut [i3
         × (length out.old ≤ lent_results_of p bytes.now first (length out.old)) }
     ensures { out.new ≡ in_turn (multiplier_at_of p bytes.now) first (length out.old) }
 {
-    let mut i: usize = 0;
-    while i < out.len() {
-        out[i] = multiplier_at(p, bytes, first + i);
-        i += 1;
+    for (i, multiplier) in out.iter_mut().enumerate() {
+        *multiplier = multiplier_at(p, bytes, first + i);
     }
 }
 
@@ -119,9 +115,7 @@ pub fn fill_errors(bytes: &[u8], out: &mut [i32])
     requires { length out.old ≤ length bytes.now }
     ensures { out.new ≡ in_turn (error_at bytes.now) 0 (length out.old) }
 {
-    let mut i: usize = 0;
-    while i < out.len() {
-        out[i] = error_of(bytes[i]);
-        i += 1;
+    for (i, error) in out.iter_mut().enumerate() {
+        *error = error_of(bytes[i]);
     }
 }

@@ -7,20 +7,19 @@ use Prim.Native.Nat.{ℕ, ◌≤◌, ◌<◌}
 use borrow.Author.Tests.{le-leb, lt-leb, leb-true}
 use lib.Dec.{leb}
 use lib.ListN.{get_or}
-use Rattle.calls.specs.declared.Answer.TheVariants.{Done, Refused}
-use Rattle.calls.specs.Outcome.{outcome, leaves}
+use Rattle.calls.specs.Outcome.{accepted, refused, leaves}
 use Rattle.calls.proofs.Checks.{all_of_false, each_all_of, all_of_each}
 use Rattle.hashes.specs.Calls.{within, sponge_answer}
 
 module _ (lengths new old : List ℕ) where
   -- the answer and the output of a refused call
-  pub too_long : within lengths ≡ false → (outcome (Refused 6 0) ≡ sponge_answer lengths) × (old ≡ leaves (sponge_answer lengths) new old)
+  pub too_long : within lengths ≡ false → (refused 6 0 ≡ sponge_answer lengths) × (old ≡ leaves (sponge_answer lengths) new old)
   unfolding sponge_answer
   too_long e = rw e (refl, refl)
 
   -- the answer and the output of an accepted call
   pub within_limit : {out : List ℕ} → within lengths ≡ true → out ≡ new
-      → (outcome Done ≡ sponge_answer lengths) × (out ≡ leaves (sponge_answer lengths) new old)
+      → (accepted ≡ sponge_answer lengths) × (out ≡ leaves (sponge_answer lengths) new old)
   unfolding sponge_answer
   within_limit e w = rw e (refl, w)
 

@@ -8,9 +8,7 @@ use native.Mathlib.Nat.{zero-add}
 use native.Mathlib.Omega.{arith}
 use lib.Dec.{ltb}
 use lib.ListN.{length}
-use Rattle.calls.specs.declared.Answer.{Answer}
-use Rattle.calls.specs.declared.Answer.TheVariants.{Done, Refused}
-use Rattle.calls.specs.Outcome.{Outcome, accepted, refused, refuse, outcome}
+use Rattle.calls.specs.Outcome.{Outcome, accepted, refused, refuse}
 use Rattle.calls.specs.Checks.{passing, refuse_first, below}
 use Rattle.maths.specs.Vector.{Below}
 use Rattle.calls.proofs.Outcome.{accepted_refused}
@@ -22,21 +20,20 @@ refuse_still : (t : Bool) (n p : ℕ) (after : Outcome) {number place : ℕ} →
 refuse_still true n p after e = e
 refuse_still false n p after e = absurd (accepted_refused refl e)
 
-module _ {A : Type 0} (test : ℕ → A → Bool) (offset : ℕ) (xs : List A) (after : Outcome) {x : Answer}
-    (e : outcome x ≡ refuse_first test 0 offset xs accepted) where
+module _ {A : Type 0} (test : ℕ → A → Bool) (offset : ℕ) (xs : List A) (after : Outcome) where
   -- the check of the first slice refused: so do all checks together
-  pub first_refused : {number place : ℕ} → x ≡ Refused number place → refused number place ≡ refuse_first test 0 offset xs after
+  pub first_refused : {number place : ℕ} → refused number place ≡ refuse_first test 0 offset xs accepted
+      → refused number place ≡ refuse_first test 0 offset xs after
   unfolding refuse_first
-  first_refused r =
-      sym (refuse_still (ltb (passing test 0 xs) (length xs)) 3 (offset + passing test 0 xs) after (sym e ∙ ap outcome r))
+  first_refused e = sym (refuse_still (ltb (passing test 0 xs) (length xs)) 3 (offset + passing test 0 xs) after (sym e))
 
   -- the check of the first slice accepted: all its entries pass
-  pub first_passing : x ≡ Done → passing test 0 xs ≡ length xs
-  first_passing r = (refuse_first_accepted test 0 offset xs accepted (sym e ∙ ap outcome r)).0
+  pub first_passing : accepted ≡ refuse_first test 0 offset xs accepted → passing test 0 xs ≡ length xs
+  first_passing e = (refuse_first_accepted test 0 offset xs accepted (sym e)).0
 
   -- and what comes after decides
-  pub first_accepted : x ≡ Done → after ≡ refuse_first test 0 offset xs after
-  first_accepted r = sym (refuse_first_passes test 0 offset xs after (length xs) (sym (first_passing r)) (omega arith))
+  pub first_accepted : accepted ≡ refuse_first test 0 offset xs accepted → after ≡ refuse_first test 0 offset xs after
+  first_accepted e = sym (refuse_first_passes test 0 offset xs after (length xs) (sym (first_passing e)) (omega arith))
 
 -- numbers of two slices, one after the other
 pub two_slices : (limit : ℕ) (xs ys : List ℕ) (after : Outcome)

@@ -44,11 +44,8 @@ pub fn fill(a: &[u32], b: &[u32], q: u32, out: &mut [u32])
     requires { Operand a.now × Operand b.now × (0 < length a.now) × (length out.old ≤ 4096) × (0 < q) }
     ensures { out.new ≡ middle_product_of q a.now b.now (length out.old) }
 {
-    let mut i: usize = 0;
-    while i < out.len() {
-        let value = places::product_place(a, b, a.len() - 1 + i, q);
-        out[i] = value;
-        i += 1;
+    for (i, place) in out.iter_mut().enumerate() {
+        *place = places::product_place(a, b, a.len() - 1 + i, q);
     }
 }
 

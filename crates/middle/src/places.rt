@@ -25,11 +25,10 @@ pub fn product_place(a: &[u32], b: &[u32], p: usize, q: u32) -> u32
     ensures { result ≡ product a.now b.now p % q }
 {
     let end = end_meeting(a.len(), p);
-    let mut j = first_meeting(b.len(), p);
+    let begin = first_meeting(b.len(), p);
     let mut sum: u64 = 0;
-    while j < end {
+    for j in begin..end {
         sum += residues::product(a[j], b[p - j]);
-        j += 1;
     }
     residues::reduce(sum, q)
 }

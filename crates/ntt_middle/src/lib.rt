@@ -82,14 +82,7 @@ pub fn middle_product(set: usize, a: &[u32], b: &[u32], out: &mut [u32], work: &
         ≡ middle_work_left set (length a.now) (length b.now) (length out.old) work.old }
 {
     let p = sets::parameters_of(set);
-    ntt_middle_checks::lengths_checked(
-        set,
-        p.d3,
-        a.len(),
-        b.len(),
-        out.len(),
-        work.len(),
-    )?;
+    ntt_middle_checks::lengths_checked(set, p.d3, a.len(), b.len(), out.len(), work.len())?;
     let answer = checked(p, a, b, out, work);
     calls::clear(work);
     answer

@@ -49,14 +49,12 @@ fn first_non_multiplier(p: Parameters, rs: &[i32]) -> usize
     requires { Rules p }
     ensures { result ≡ passing (is_multiplier_of p) 0 rs.now }
 {
-    let mut i: usize = 0;
-    while i < rs.len() {
-        if !is_multiplier(p, i, rs[i]) {
+    for (i, r) in rs.iter().enumerate() {
+        if !is_multiplier(p, i, *r) {
             return i;
         }
-        i += 1;
     }
-    i
+    rs.len()
 }
 
 // Refused at the first number that is no multiplier at its position, its place counted from `offset`.
@@ -77,10 +75,7 @@ pub fn residues_of(zs: &[i32], q: u32, out: &mut [u32])
         × ((k : ℕ) → k < length zs.now → nat_abs (get_or zs.now k (pos 0)) < 2 ^ 24) }
     ensures { out.new ≡ scheme.residues q zs.now }
 {
-    let mut i: usize = 0;
-    while i < out.len() {
-        let value = residues::of_signed(zs[i], q);
-        out[i] = value;
-        i += 1;
+    for (i, residue) in out.iter_mut().enumerate() {
+        *residue = residues::of_signed(zs[i], q);
     }
 }

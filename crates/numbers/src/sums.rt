@@ -41,11 +41,8 @@ pub fn sum_place(xs: &[u32], m: usize, ys: &[u32], n: usize, place: usize, p: Pa
     let q = p.q;
     let t = p.t;
     let mut sum: u32 = 0;
-    let mut i: usize = 0;
-    while i < t {
-        let term = term_place(xs, m, ys, n, i, place, p);
-        sum = residues::add(sum, term, q);
-        i += 1;
+    for i in 0..t {
+        sum = residues::add(sum, term_place(xs, m, ys, n, i, place, p), q);
     }
     sum
 }

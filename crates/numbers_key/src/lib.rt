@@ -41,14 +41,12 @@ fn first_error(es: &[i32], eta: u32) -> usize
     requires { eta < 2 ^ 24 }
     ensures { result ≡ passing (is_error eta) 0 es.now }
 {
-    let mut i: usize = 0;
-    while i < es.len() {
-        if !signed::size_within(es[i], eta) {
+    for (i, e) in es.iter().enumerate() {
+        if !signed::size_within(*e, eta) {
             return i;
         }
-        i += 1;
     }
-    i
+    es.len()
 }
 
 // Refused at the first number of size above `eta`, its place counted from `offset`.
@@ -92,11 +90,8 @@ fn fill(p: Parameters, a: &[u32], s: &[u32], e: &[i32], b: &mut [u32])
     requires { Rules p × KeyOperands p a.now s.now e.now × (length b.old ≡ length e.now) }
     ensures { b.new ≡ scheme.key p a.now s.now e.now }
 {
-    let mut l: usize = 0;
-    while l < b.len() {
-        let value = key_place(p, a, s, e, l);
-        b[l] = value;
-        l += 1;
+    for (l, place) in b.iter_mut().enumerate() {
+        *place = key_place(p, a, s, e, l);
     }
 }
 

@@ -61,11 +61,8 @@ fn fill(set: usize, p: Parameters, c1: &[u32], c2: &[u32], s: &[u32], bits: &mut
     requires { IsSet set × (p ≡ set_of set) × ReadingOperands p c1.now c2.now s.now × (length bits.old ≡ p.d) }
     ensures { bits.new ≡ scheme.reading set p c1.now c2.now s.now }
 {
-    let mut j: usize = 0;
-    while j < bits.len() {
-        let value = bits::rounded_bit(set, p, opened_place(p, c1, c2, s, j));
-        bits[j] = value;
-        j += 1;
+    for (j, bit) in bits.iter_mut().enumerate() {
+        *bit = bits::rounded_bit(set, p, opened_place(p, c1, c2, s, j));
     }
 }
 

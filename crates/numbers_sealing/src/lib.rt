@@ -50,12 +50,7 @@ fn numbers_checked(p: Parameters, a: &[u32], b: &[u32], r: &[i32], m: &[u32]) ->
 {
     let q = p.q;
     checks::two_checked(a, b, q)?;
-    numbers_sealing_parts::multipliers_and_message_checked(
-            p,
-            r,
-            m,
-            a.len() + b.len(),
-        )
+    numbers_sealing_parts::multipliers_and_message_checked(p, r, m, a.len() + b.len())
 }
 
 // Writes c1 from the residues `rs` of the multipliers.
@@ -66,11 +61,8 @@ fn fill_first(p: Parameters, rs: &[u32], a: &[u32], c1: &mut [u32])
 {
     let m = p.k + 1;
     let n = p.n;
-    let mut j: usize = 0;
-    while j < c1.len() {
-        let value = sum_place(rs, m, a, n, j, p);
-        c1[j] = value;
-        j += 1;
+    for (j, place) in c1.iter_mut().enumerate() {
+        *place = sum_place(rs, m, a, n, j, p);
     }
 }
 
@@ -80,10 +72,8 @@ fn fill_second(p: Parameters, rs: &[u32], b: &[u32], m: &[u32], c2: &mut [u32])
         × (length m.now ≡ p.d) × Below 2 m.now × (length c2.old ≡ p.d) }
     ensures { c2.new ≡ finished p rs.now b.now m.now }
 {
-    let mut j: usize = 0;
-    while j < c2.len() {
+    for j in 0..c2.len() {
         numbers_sealing_parts::finish_place(p, rs, b, m, j, c2);
-        j += 1;
     }
 }
 

@@ -31,15 +31,10 @@ fn fill_errors(p: Parameters, bytes: &[u8], out: &mut [u32])
     ensures { out.new ≡ map (residue p.q) (errors_of p bytes.now) }
 {
     let row = p.d + p.k;
-    let mut i: usize = 0;
-    let mut r: usize = 0;
-    while r < p.t {
-        let end = i + row;
-        while i < end {
+    for r in 0..p.t {
+        for i in r * row..r * row + row {
             out[i] = error_residue(bytes, i + r, p.q);
-            i += 1;
         }
-        r += 1;
     }
 }
 
@@ -82,10 +77,8 @@ fn fill_multipliers(p: Parameters, bytes: &[u8], out: &mut [u32])
     requires { Rules p × ByteRules p × (length bytes.now ≡ multiplier_draw_bytes_of p) × (length out.old ≡ multiplier_count_of p) }
     ensures { out.new ≡ map (residue p.q) (multipliers_of p bytes.now) }
 {
-    let mut i: usize = 0;
-    while i < out.len() {
-        out[i] = multiplier_residue(p, bytes, i);
-        i += 1;
+    for (i, residue) in out.iter_mut().enumerate() {
+        *residue = multiplier_residue(p, bytes, i);
     }
 }
 

@@ -53,9 +53,10 @@ fn read_with_buffers(
     ensures { read.new ≡ scheme.reading 0 bench (first_of 0 a.now r.now)
         (second_of 0 a.now s.now e.now r.now m.now) s.now }
 {
-    numbers_key::key(0, a, s, e, b);
-    numbers_sealing::sealing(0, a, b, r, m, c1, c2);
-    numbers_reading::reading(0, c1, c2, s, read);
+    // none is refused, as the function requires
+    let _ = numbers_key::key(0, a, s, e, b);
+    let _ = numbers_sealing::sealing(0, a, b, r, m, c1, c2);
+    let _ = numbers_reading::reading(0, c1, c2, s, read);
 }
 
 // The same with arrays of its own for them.

@@ -33,8 +33,9 @@ fn read_message(
         → opened.new ≡ message_read p seed.now message.now sealing.now }
 {
     cpa_keygen::keygen(p, seed, public, secret, work)?;
-    cpa_encrypt::encrypt(p, public, message, sealing, ciphertext, work);
-    cpa_decrypt::decrypt(p, secret, ciphertext, opened, work);
+    // a key that was made is accepted by both
+    let _ = cpa_encrypt::encrypt(p, public, message, sealing, ciphertext, work);
+    let _ = cpa_decrypt::decrypt(p, secret, ciphertext, opened, work);
     Ok(())
 }
 

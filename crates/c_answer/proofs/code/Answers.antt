@@ -1,15 +1,13 @@
 -- `c_answer::code` gives an answer in one number.
 -- Assumes nothing.
-use mathlib.Core.Path.{ap, sym}
-use Rattle.calls.specs.Outcome.{outcome}
-use Rattle.calls.specs.declared.Answer.{Answer}
+use mathlib.Core.Path.{refl}
 use Rattle.c_answer.specs.Coded.{coded}
 use Rattle.c_answer.proofs.code.Goals as goal
 
-pub returns-in-Done : goal.returns-in-Done
+pub returns-in-Ok : goal.returns-in-Ok
 unfolding coded
-returns-in-Done c = sym (ap (λ (o : Answer). coded (outcome o)) c.in-Done.is)
+returns-in-Ok c = rw c.in-Ok.is refl
 
-pub returns-in-Refused : goal.returns-in-Refused
+pub returns-in-Err : goal.returns-in-Err
 unfolding coded
-returns-in-Refused c = sym (ap (λ (o : Answer). coded (outcome o)) c.in-Refused.is)
+returns-in-Err c = rw (c.in-Err.is, c.number.ensures, c.place.ensures) refl

@@ -13,10 +13,11 @@ use Rattle.sets.specs.Rules.{Rules, ByteRules}
 use Rattle.sets.proofs.Rules.{rules as set_rules, byte_rules}
 use Rattle.draws.specs.Small.{multiplier_at_of}
 use Rattle.draws.specs.Calls.{in_turn}
+use Rattle.calls.proofs.Outcome.{handed_on}
 use Rattle.lent_draws.specs.Calls.{multipliers_answer, multipliers_left}
 use Rattle.lent_draws.proofs.Answers.{Shaped, shaped, shape_refused, refused_both, accepted_both}
 use Rattle.lent_draws.proofs.Answers.{multipliers_none, multipliers_past, multipliers_short, multipliers_enough}
-use Rattle.lent_draws.proofs.multipliers.Goals.{After-parameters_of-p, Else-count-wanted-2, Else-wanted-eq0, In-Done, Start}
+use Rattle.lent_draws.proofs.multipliers.Goals.{After-parameters_of-p, Else-count-wanted-2, Else-wanted-eq0, In_ok-check_shape, Start}
 use Rattle.lent_draws.proofs.multipliers.Goals as goal
 
 -- how many results are wanted, and what the call answers
@@ -27,8 +28,8 @@ abbrev answered : Start → Outcome
 answered s = multipliers_answer s.args.set s.args.bytes.now s.args.first (wanted s)
 
 -- the set and the count of results are accepted
-shape : (c : In-Done) → Shaped c.args.set (wanted (goal.at.In-Done c).Start)
-shape c = shaped _ _ (sym c.check_shape-shape.ensures ∙ ap outcome c.in-Done.is)
+shape : (c : In_ok-check_shape) → Shaped c.args.set (wanted (goal.at.In_ok-check_shape c).Start)
+shape c = shaped _ _ (sym c.in_ok-check_shape.ensures)
 
 -- some results are wanted
 some : (c : Else-wanted-eq0) → 0 < wanted (goal.at.Else-wanted-eq0 c).Start
@@ -37,29 +38,30 @@ some c = omega (arith, c.if-wanted-eq0.false)
 -- the set keeps its rules
 ruled : (c : After-parameters_of-p) → Rules c.parameters_of-p.result × ByteRules c.parameters_of-p.result
 ruled c =
-    let s = shape (goal.at.After-parameters_of-p c).In-Done in
+    let s = shape (goal.at.After-parameters_of-p c).In_ok-check_shape in
     rw c.parameters_of-p.ensures (set_rules _ s.most, byte_rules _ s.some s.most)
 
 -- a position past the last
 past : (c : After-parameters_of-p) → multiplier_count_of c.parameters_of-p.result < c.args.first + wanted (goal.at.After-parameters_of-p c).Start →
     answered (goal.at.After-parameters_of-p c).Start ≡ refused 2 0
 past c h =
-    multipliers_past _ _ _ (shape (goal.at.After-parameters_of-p c).In-Done) _ c.parameters_of-p.ensures _
+    multipliers_past _ _ _ (shape (goal.at.After-parameters_of-p c).In_ok-check_shape) _ c.parameters_of-p.ensures _
     (some (goal.at.After-parameters_of-p c).Else-wanted-eq0) h
 
 -- no position is past the last
 within : (c : Else-count-wanted-2) → c.args.first + wanted (goal.at.Else-count-wanted-2 c).Start ≤ multiplier_count_of c.parameters_of-p.result
 within c = omega (arith, c.multiplier_count-count.ensures)
 
-pub returns-in_default : goal.returns-in_default
+pub returns-in_err-check_shape : goal.returns-in_err-check_shape
 unfolding multipliers_answer multipliers_left
-returns-in_default c =
-    let told = ap outcome c.in_default.is in let whole = refused_both _ _ told (shape_refused _ _ (sym c.check_shape-shape.ensures ∙ told) _) in
+returns-in_err-check_shape c =
+    let whole = refused_both _ _ (handed_on _ c.from_residual.result c.from_residual.ensures.1)
+    (shape_refused _ _ (sym c.in_err-check_shape.ensures) _) in
     record { answer = whole.0; result = whole.1 }
 
 pub returns-then-wanted-eq0 : goal.returns-then-wanted-eq0
 returns-then-wanted-eq0 c =
-    let whole = multipliers_none _ _ _ _ (shape (goal.at.returns-then-wanted-eq0 c).In-Done) c.if-wanted-eq0.true in
+    let whole = multipliers_none _ _ _ _ (shape (goal.at.returns-then-wanted-eq0 c).In_ok-check_shape) c.if-wanted-eq0.true in
     record { answer = whole.0; result = whole.1 }
 
 pub multiplier_count-count-requires : goal.multiplier_count-count-requires
@@ -82,13 +84,13 @@ lent_results-ready-requires c =
     ((ruled (goal.at.lent_results-ready-requires c).After-parameters_of-p).0, (ruled (goal.at.lent_results-ready-requires c).After-parameters_of-p).1, within c)
 
 pub overflow_cast-result : goal.overflow_cast-result
-overflow_cast-result c = omega (arith, (shape (goal.at.overflow_cast-result c).In-Done).few)
+overflow_cast-result c = omega (arith, (shape (goal.at.overflow_cast-result c).In_ok-check_shape).few)
 
 pub returns-then-ready-wanted : goal.returns-then-ready-wanted
 unfolding multipliers_left
 returns-then-ready-wanted c =
     let counted = c.lent_results-ready.ensures in let whole = refused_both _ _ (ap (refused 4) counted)
-    (multipliers_short _ _ _ (shape (goal.at.returns-then-ready-wanted c).In-Done) _ c.parameters_of-p.ensures _
+    (multipliers_short _ _ _ (shape (goal.at.returns-then-ready-wanted c).In_ok-check_shape) _ c.parameters_of-p.ensures _
     (some (goal.at.returns-then-ready-wanted c).Else-wanted-eq0) (within (goal.at.returns-then-ready-wanted c).Else-count-wanted-2)
     (omega (arith, c.if-ready-wanted.true))) in record { answer = whole.0; result = whole.1 }
 
@@ -105,7 +107,7 @@ unfolding multipliers_left
 returns c =
     let drawn : Parameters → List ℤ = λ p. in_turn (multiplier_at_of p c.args.bytes.now) c.args.first (wanted (goal.at.returns c).Start) in
     let whole = accepted_both _
-    (multipliers_enough _ _ _ (shape (goal.at.returns c).In-Done) _ c.parameters_of-p.ensures _ (some (goal.at.returns c).Else-wanted-eq0)
+    (multipliers_enough _ _ _ (shape (goal.at.returns c).In_ok-check_shape) _ c.parameters_of-p.ensures _ (some (goal.at.returns c).Else-wanted-eq0)
     (within (goal.at.returns c).Else-count-wanted-2)
     (omega (arith, c.if-ready-wanted.false)))
     (c.fill_multipliers.ensures ∙ ap drawn c.parameters_of-p.ensures) in record { answer = whole.0; result = whole.1 }

@@ -14,7 +14,7 @@ loop-i-init c = filled_none (middle_product_length _ _ _ _) (omega arith)
 pub loop-i-preserved : goal.loop-i-preserved
 loop-i-preserved c =
     filled_more 0 c.loop-i.invariant (omega arith) (omega arith)
-    (c.product_place-value.ensures
+    (c.product_place.ensures
     ∙ sym (middle_product_at c.args.q c.args.a.now c.args.b.now (length c.args.out.now) c.loop-i.i
     (omega arith)))
 

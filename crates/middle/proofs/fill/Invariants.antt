@@ -8,6 +8,3 @@ use Rattle.middle.proofs.fill.Given as goal
 
 abbrev pub invariant-loop-i : goal.invariant-loop-i
 invariant-loop-i l = Filled l.initial.out 0 (length l.initial.out) (middle_product_of l.q l.a l.b (length l.initial.out)) l.i l.out
-
-abbrev pub decreases-loop-i : goal.decreases-loop-i
-decreases-loop-i l = length l.initial.out - l.i

@@ -7,27 +7,27 @@ use native.Mathlib.Omega.{arith}
 use lib.ListN.{length, take, drop}
 use lib.Seq.{length-take-le}
 use Rattle.calls.specs.Outcome.{outcome, accepted}
-use Rattle.calls.proofs.Outcome.{refused_call, accepted_call}
+use Rattle.calls.proofs.Outcome.{accepted_call, handed_call}
 use Rattle.sets.specs.declared.Parameters.{Parameters}
 use Rattle.sets.specs.Table.{set_of}
 use Rattle.sets.proofs.Rules.{rules as set_rules, listed_set}
 use Rattle.ntt_partial_checks.specs.Checks.{size_number_of, partial_answer_of}
 use Rattle.ntt_partial.specs.Calls.{partial_recovered, partial_inverse_left}
 use Rattle.ntt_partial.proofs.Accepted.{Accepted, call_accepted, call_wide, wide_recovered, rows_few, rows_within}
-use Rattle.ntt_partial.proofs.inverse.Goals.{After-size_number-i, In-Done}
+use Rattle.ntt_partial.proofs.inverse.Goals.{After-size_number-i, In_ok-checked}
 use Rattle.ntt_partial.proofs.inverse.Goals as goal
 
-pub checked-answer-requires : goal.checked-answer-requires
-checked-answer-requires c = c.parameters_of-p.ensures
+pub checked-requires : goal.checked-requires
+checked-requires c = c.parameters_of-p.ensures
 
 -- the checks accept
-checks : (c : In-Done)
+checks : (c : In_ok-checked)
     → let args = c.args in
     partial_answer_of args.set args.rows args.row args.m args.input.now (length args.out.now) ≡ accepted
-checks c = sym c.checked-answer.ensures ∙ ap outcome c.in-Done.is
+checks c = sym c.in_ok-checked.ensures
 
 -- so the call is one that they accept
-call : (c : In-Done)
+call : (c : In_ok-checked)
     → let args = c.args in
     Accepted args.set args.rows args.row args.m args.input.now (length args.out.now)
 call c = call_accepted _ _ _ _ _ _ (checks c)
@@ -40,11 +40,10 @@ number c =
     let args = c.args in
     c.size_number-i.ensures ∙ ap (λ (p : Parameters). size_number_of p (args.rows * args.row)) c.parameters_of-p.ensures
 
-pub returns-in_default : goal.returns-in_default
+pub returns-in_err-checked : goal.returns-in_err-checked
 unfolding partial_inverse_left
-returns-in_default c =
-    let told = ap outcome c.in_default.is in
-    rw told (let whole = refused_call _ _ (sym c.checked-answer.ensures ∙ told) in record { answer = whole.0; left = whole.1 })
+returns-in_err-checked c =
+    let whole = handed_call _ _ _ c.from_residual.result c.from_residual.ensures.1 (sym c.in_err-checked.ensures) in record { answer = whole.0; left = whole.1 }
 
 pub size_number-i-requires : goal.size_number-i-requires
 size_number-i-requires c =
@@ -52,7 +51,7 @@ size_number-i-requires c =
 
 -- the rows that are written
 rows : (c : After-size_number-i) → let args = c.args in args.m * args.row ≤ length args.out.now
-rows c = let made = call (goal.at.After-size_number-i c).In-Done in omega (arith, rows_within made, made.output)
+rows c = let made = call (goal.at.After-size_number-i c).In_ok-checked in omega (arith, rows_within made, made.output)
 
 -- where they end
 end : (c : After-size_number-i)
@@ -68,14 +67,14 @@ lent c =
     rw (end c) (length-take-le (args.m * args.row) args.out.now (rows c))
 
 pub overflow_mul-end : goal.overflow_mul-end
-overflow_mul-end c = let made = call (goal.at.overflow_mul-end c).In-Done in record { fits = omega (arith, rows_within made, rows_few made) }
+overflow_mul-end c = let made = call (goal.at.overflow_mul-end c).In_ok-checked in record { fits = omega (arith, rows_within made, rows_few made) }
 
 pub slice_bounds-inverse_wide-end : goal.slice_bounds-inverse_wide-end
 slice_bounds-inverse_wide-end c = rows (goal.at.slice_bounds-inverse_wide-end c).After-size_number-i
 
 pub inverse_wide-requires : goal.inverse_wide-requires
 inverse_wide-requires c =
-    let made = call (goal.at.inverse_wide-requires c).In-Done in
+    let made = call (goal.at.inverse_wide-requires c).In_ok-checked in
     let wide = c.if-row-eq256.true in
     let size = lent (goal.at.inverse_wide-requires c).After-size_number-i ∙ ap (λ (n : ℕ). c.args.m * n) wide in
     rw (number (goal.at.inverse_wide-requires c).After-size_number-i, c.parameters_of-p.ensures) (listed_set _ made.low, call_wide made wide, size)
@@ -84,10 +83,10 @@ pub returns-then-row-eq256 : goal.returns-then-row-eq256
 unfolding partial_inverse_left
 returns-then-row-eq256 c =
     let args = c.args in
-    let made = call (goal.at.returns-then-row-eq256 c).In-Done in
+    let made = call (goal.at.returns-then-row-eq256 c).In_ok-checked in
     let recovered = rw (number (goal.at.returns-then-row-eq256 c).After-size_number-i, c.parameters_of-p.ensures) at c.inverse_wide.ensures in
     let whole = recovered ∙ wide_recovered made c.if-row-eq256.true in
-    let whole = accepted_call _ _ (checks (goal.at.returns-then-row-eq256 c).In-Done) (rw (end (goal.at.returns-then-row-eq256 c).After-size_number-i)
+    let whole = accepted_call _ _ (checks (goal.at.returns-then-row-eq256 c).In_ok-checked) (rw (end (goal.at.returns-then-row-eq256 c).After-size_number-i)
     (ap (λ (l : List ℕ). l ++ drop (args.m * args.row) args.out.now) whole)) in record { answer = whole.0; left = whole.1 }
 
 pub slice_bounds-inverse_plain-end : goal.slice_bounds-inverse_plain-end
@@ -95,7 +94,7 @@ slice_bounds-inverse_plain-end c = rows (goal.at.slice_bounds-inverse_plain-end 
 
 pub inverse_plain-requires : goal.inverse_plain-requires
 inverse_plain-requires c =
-    let made = call (goal.at.inverse_plain-requires c).In-Done in
+    let made = call (goal.at.inverse_plain-requires c).In_ok-checked in
     rw (number (goal.at.inverse_plain-requires c).After-size_number-i, c.parameters_of-p.ensures) (
       listed_set _ made.low,
       made.split,
@@ -107,5 +106,5 @@ unfolding partial_inverse_left partial_recovered
 returns c =
     let args = c.args in
     let recovered = rw (number (goal.at.returns c).After-size_number-i, c.parameters_of-p.ensures) at c.inverse_plain.ensures in
-    let whole = accepted_call _ _ (checks (goal.at.returns c).In-Done) (rw (end (goal.at.returns c).After-size_number-i)
+    let whole = accepted_call _ _ (checks (goal.at.returns c).In_ok-checked) (rw (end (goal.at.returns c).After-size_number-i)
     (ap (λ (l : List ℕ). l ++ drop (args.m * args.row) args.out.now) recovered)) in record { answer = whole.0; left = whole.1 }

@@ -12,11 +12,11 @@ loop-l-init c =
     filled_none (omega (arith, key_length c.args.p c.args.a.now c.args.s.now c.args.e.now, c.requires.1.errors_length))
     (omega arith)
 
-pub key_place-value-requires : goal.key_place-value-requires
-key_place-value-requires c = (c.requires.0, c.requires.1, omega (arith, c.requires.2))
+pub key_place-requires : goal.key_place-requires
+key_place-requires c = (c.requires.0, c.requires.1, omega (arith, c.requires.2))
 
 pub loop-l-preserved : goal.loop-l-preserved
-loop-l-preserved c = filled_more 0 c.loop-l.invariant (omega arith) (omega arith) c.key_place-value.ensures
+loop-l-preserved c = filled_more 0 c.loop-l.invariant (omega arith) (omega arith) c.key_place.ensures
 
 pub returns : goal.returns
 returns c = filled_whole c.loop-l.invariant refl (omega arith)

@@ -8,6 +8,3 @@ use Rattle.numbers_key.proofs.fill.Given as goal
 
 abbrev pub invariant-loop-l : goal.invariant-loop-l
 invariant-loop-l l = Filled l.initial.b 0 (length l.initial.b) (key l.p l.a l.s l.e) l.l l.b
-
-abbrev pub decreases-loop-l : goal.decreases-loop-l
-decreases-loop-l l = length l.initial.b - l.l

@@ -5,7 +5,7 @@ use mathlib.Core.Bool.{true}
 use Prim.Native.Nat.{◌-◌}
 use lib.Dec.{leb}
 use lib.IntN.{ℤ, pos, nat_abs}
-use lib.ListN.{get_or}
+use lib.ListN.{length, get_or}
 use native.Mathlib.Omega.{arith}
 use borrow.Author.Count.{below_none, below_more}
 use Rattle.calls.proofs.Checks.{passing_is}
@@ -39,5 +39,5 @@ loop-i-preserved c =
 
 pub returns : goal.returns
 returns c =
-    let at = c.loop-i in
-    passing_is (is_error c.args.eta) 0 c.args.es.now (pos 0) at.i at.invariant.0 at.invariant.1 (λ h. absurd (omega arith))
+    passing_is (is_error c.args.eta) 0 c.args.es.now (pos 0) (length c.args.es.now) (omega arith) (λ k h. c.loop-i.invariant.1 k (omega arith))
+    (λ h. absurd (omega arith))

@@ -10,6 +10,3 @@ use Rattle.numbers_key.proofs.first_error.Given as goal
 
 abbrev pub invariant-loop-i : goal.invariant-loop-i
 invariant-loop-i l = (l.i ≤ length l.es) × ((k : ℕ) → k < l.i → leb (nat_abs (get_or l.es k (pos 0))) l.eta ≡ true)
-
-abbrev pub decreases-loop-i : goal.decreases-loop-i
-decreases-loop-i l = length l.es - l.i

@@ -8,7 +8,7 @@ use native.Mathlib.Omega.{arith}
 use borrow.Author.Tests.{eqb-true}
 use Rattle.calls.specs.Outcome.{outcome, accepted}
 use Rattle.calls.specs.Checks.{all_of}
-use Rattle.calls.proofs.Outcome.{refused_call, accepted_call}
+use Rattle.calls.proofs.Outcome.{refused_call, accepted_call, handed_call}
 use Rattle.calls.proofs.Checks.{all_of_each}
 use Rattle.sets.specs.Rules.{Rules}
 use Rattle.sets.proofs.Counts.{errors_most}
@@ -17,7 +17,7 @@ use Rattle.middle.proofs.Chained.{accepted_two}
 use Rattle.middle.proofs.OpenCall.{opening_set, opening_lengths, operand}
 use Rattle.numbers.specs.Calls.{key_shape, key_answer, key_left}
 use Rattle.numbers.proofs.KeyLaws.{accepted_errors, key_numbers_lem}
-use Rattle.numbers_key.proofs.key.Goals.{After-numbers_checked-checked, Else-not-lengths_fit}
+use Rattle.numbers_key.proofs.key.Goals.{After-numbers_checked, Else-not-lengths_fit}
 use Rattle.numbers_key.proofs.key.Goals as goal
 
 pub returns-then-set-gt-LAST : goal.returns-then-set-gt-LAST
@@ -47,18 +47,18 @@ kept c =
     rw (← c.parameters_of-p.ensures) at (set_rules c.args.set (omega (arith, c.if-set-gt-LAST.false)))
 
 -- the numbers decide
-decided : (c : After-numbers_checked-checked)
+decided : (c : After-numbers_checked)
     → let args = c.args in
-    key_answer args.set args.a.now args.s.now args.e.now (length args.b.now) ≡ outcome c.numbers_checked-checked.result
+    key_answer args.set args.a.now args.s.now args.e.now (length args.b.now) ≡ outcome c.numbers_checked.result
 decided c =
     let args = c.args in
     let known = c.parameters_of-p in
     key_numbers_lem args.set known.result args.a.now args.s.now args.e.now (length args.b.now) known.ensures
-    c.if-set-gt-LAST.false (lengths (goal.at.After-numbers_checked-checked c).Else-not-lengths_fit)
-    ∙ sym c.numbers_checked-checked.ensures
+    c.if-set-gt-LAST.false (lengths (goal.at.After-numbers_checked c).Else-not-lengths_fit)
+    ∙ sym c.numbers_checked.ensures
 
-pub numbers_checked-checked-requires : goal.numbers_checked-checked-requires
-numbers_checked-checked-requires c =
+pub numbers_checked-requires : goal.numbers_checked-requires
+numbers_checked-requires c =
     let each = all_of_each _ (lengths c) in
     let p = c.parameters_of-p.result in
     let keeps = kept c in
@@ -71,7 +71,7 @@ fill-requires c =
     let p = c.parameters_of-p.result in
     let each = all_of_each _ (lengths (goal.at.fill-requires c).Else-not-lengths_fit) in
     let keeps = kept (goal.at.fill-requires c).Else-not-lengths_fit in
-    let passed = sym c.numbers_checked-checked.ensures ∙ ap outcome c.in-Done.is in
+    let passed = sym c.in_ok-numbers_checked.ensures in
     let numbers = accepted_two p.q args.a.now args.s.now _ passed in
     let errors = accepted_errors p.eta _ args.e.now accepted numbers.2 in (
       keeps,
@@ -84,14 +84,15 @@ fill-requires c =
       eqb-true _ _ each.1.1.1.0 ∙ sym (eqb-true _ _ each.1.1.0),
     )
 
-pub returns-in-Refused : goal.returns-in-Refused
+pub returns-in_err-numbers_checked : goal.returns-in_err-numbers_checked
 unfolding key_left
-returns-in-Refused c =
-    let whole = refused_call _ _ (decided (goal.at.returns-in-Refused c).After-numbers_checked-checked ∙ ap outcome c.in-Refused.is) in
+returns-in_err-numbers_checked c =
+    let whole = handed_call _ _ _ c.from_residual.result c.from_residual.ensures.1
+    (decided (goal.at.returns-in_err-numbers_checked c).After-numbers_checked ∙ ap outcome c.in_err-numbers_checked.was) in
     record { answer = whole.0; left = whole.1 }
 
-pub returns-in-Done : goal.returns-in-Done
+pub returns : goal.returns
 unfolding key_left
-returns-in-Done c =
-    let whole = accepted_call _ _ (decided (goal.at.returns-in-Done c).After-numbers_checked-checked ∙ ap outcome c.in-Done.is)
+returns c =
+    let whole = accepted_call _ _ (decided (goal.at.returns c).After-numbers_checked ∙ ap outcome c.in_ok-numbers_checked.was)
     (c.fill.ensures ∙ rw c.parameters_of-p.ensures) in record { answer = whole.0; left = whole.1 }

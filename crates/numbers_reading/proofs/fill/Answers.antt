@@ -15,8 +15,8 @@ pub opened_place-requires : goal.opened_place-requires
 opened_place-requires c =
     (rw c.requires.1 (set_rules c.args.set c.requires.0), c.requires.2, omega arith)
 
-pub rounded_bit-value-requires : goal.rounded_bit-value-requires
-rounded_bit-value-requires c =
+pub rounded_bit-requires : goal.rounded_bit-requires
+rounded_bit-requires c =
     let kept = set_rules c.args.set c.requires.0 in (
       c.requires.0,
       c.requires.1,
@@ -28,7 +28,7 @@ rounded_bit-value-requires c =
 pub loop-j-preserved : goal.loop-j-preserved
 loop-j-preserved c =
     filled_more 0 c.loop-j.invariant (omega arith) (omega arith)
-    (c.rounded_bit-value.ensures
+    (c.rounded_bit.ensures
     ∙ rw c.opened_place.ensures
     (sym (reading_at c.args.set c.args.p c.args.c1.now c.args.c2.now c.args.s.now
     c.loop-j.j (omega arith))))

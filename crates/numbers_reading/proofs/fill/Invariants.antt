@@ -8,6 +8,3 @@ use Rattle.numbers_reading.proofs.fill.Given as goal
 
 abbrev pub invariant-loop-j : goal.invariant-loop-j
 invariant-loop-j l = Filled l.initial.bits 0 l.p.d (reading l.set l.p l.c1 l.c2 l.s) l.j l.bits
-
-abbrev pub decreases-loop-j : goal.decreases-loop-j
-decreases-loop-j l = length l.initial.bits - l.j

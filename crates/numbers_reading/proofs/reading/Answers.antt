@@ -7,14 +7,14 @@ use native.Mathlib.Omega.{arith}
 use borrow.Author.Tests.{eqb-true}
 use Rattle.calls.specs.Outcome.{outcome, accepted}
 use Rattle.calls.specs.Checks.{all_of}
-use Rattle.calls.proofs.Outcome.{refused_call, accepted_call}
+use Rattle.calls.proofs.Outcome.{refused_call, accepted_call, handed_call}
 use Rattle.calls.proofs.Checks.{all_of_each}
 use Rattle.sets.specs.Rules.{Rules}
 use Rattle.sets.proofs.Rules.{rules as set_rules}
 use Rattle.numbers.specs.Calls.{reading_shape, reading_answer, reading_left}
 use Rattle.middle.proofs.OpenCall.{opening_set, opening_lengths, operand}
 use Rattle.numbers.proofs.ReadingLaws.{accepted_three, reading_numbers}
-use Rattle.numbers_reading.proofs.reading.Goals.{After-numbers_checked-checked, Else-not-lengths_fit}
+use Rattle.numbers_reading.proofs.reading.Goals.{After-numbers_checked, Else-not-lengths_fit}
 use Rattle.numbers_reading.proofs.reading.Goals as goal
 
 pub returns-then-set-gt-LAST : goal.returns-then-set-gt-LAST
@@ -44,18 +44,18 @@ kept c =
     rw (← c.parameters_of-p.ensures) at (set_rules c.args.set (omega (arith, c.if-set-gt-LAST.false)))
 
 -- the numbers decide
-decided : (c : After-numbers_checked-checked)
+decided : (c : After-numbers_checked)
     → let args = c.args in
-    reading_answer args.set args.c1.now args.c2.now args.s.now (length args.bits.now) ≡ outcome c.numbers_checked-checked.result
+    reading_answer args.set args.c1.now args.c2.now args.s.now (length args.bits.now) ≡ outcome c.numbers_checked.result
 decided c =
     let args = c.args in
     let known = c.parameters_of-p in
     reading_numbers args.set known.result args.c1.now args.c2.now args.s.now (length args.bits.now) known.ensures
-    c.if-set-gt-LAST.false (lengths (goal.at.After-numbers_checked-checked c).Else-not-lengths_fit)
-    ∙ sym c.numbers_checked-checked.ensures
+    c.if-set-gt-LAST.false (lengths (goal.at.After-numbers_checked c).Else-not-lengths_fit)
+    ∙ sym c.numbers_checked.ensures
 
-pub numbers_checked-checked-requires : goal.numbers_checked-checked-requires
-numbers_checked-checked-requires c =
+pub numbers_checked-requires : goal.numbers_checked-requires
+numbers_checked-requires c =
     let each = all_of_each _ (lengths c) in
     let keeps = kept c in
     omega (arith, eqb-true, keeps.most_n, keeps.most_k, keeps.most_d)
@@ -67,7 +67,7 @@ fill-requires c =
     let each = all_of_each _ (lengths (goal.at.fill-requires c).Else-not-lengths_fit) in
     let within = c.if-set-gt-LAST.false in
     let keeps = kept (goal.at.fill-requires c).Else-not-lengths_fit in
-    let passed = sym c.numbers_checked-checked.ensures ∙ ap outcome c.in-Done.is in
+    let passed = sym c.in_ok-numbers_checked.ensures in
     let numbers = accepted_three known.result.q args.c1.now args.c2.now args.s.now accepted passed in (
       omega (arith, within),
       known.ensures,
@@ -81,14 +81,15 @@ fill-requires c =
       omega (arith, eqb-true),
     )
 
-pub returns-in-Refused : goal.returns-in-Refused
+pub returns-in_err-numbers_checked : goal.returns-in_err-numbers_checked
 unfolding reading_left
-returns-in-Refused c =
-    let whole = refused_call _ _ (decided (goal.at.returns-in-Refused c).After-numbers_checked-checked ∙ ap outcome c.in-Refused.is) in
+returns-in_err-numbers_checked c =
+    let whole = handed_call _ _ _ c.from_residual.result c.from_residual.ensures.1
+    (decided (goal.at.returns-in_err-numbers_checked c).After-numbers_checked ∙ ap outcome c.in_err-numbers_checked.was) in
     record { answer = whole.0; left = whole.1 }
 
-pub returns-in-Done : goal.returns-in-Done
+pub returns : goal.returns
 unfolding reading_left
-returns-in-Done c =
-    let whole = accepted_call _ _ (decided (goal.at.returns-in-Done c).After-numbers_checked-checked ∙ ap outcome c.in-Done.is)
+returns c =
+    let whole = accepted_call _ _ (decided (goal.at.returns c).After-numbers_checked ∙ ap outcome c.in_ok-numbers_checked.was)
     (c.fill.ensures ∙ rw c.parameters_of-p.ensures) in record { answer = whole.0; left = whole.1 }

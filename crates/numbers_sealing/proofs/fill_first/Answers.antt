@@ -11,8 +11,8 @@ use Rattle.numbers_sealing.proofs.fill_first.Goals as goal
 pub loop-j-init : goal.loop-j-init
 loop-j-init c = filled_none (tabulate_length _ _) (omega (arith, c.requires.3))
 
-pub sum_place-value-requires : goal.sum_place-value-requires
-sum_place-value-requires c =
+pub sum_place-requires : goal.sum_place-requires
+sum_place-requires c =
     let kept = c.requires.0 in (
       kept,
       c.requires.1,
@@ -26,7 +26,7 @@ pub loop-j-preserved : goal.loop-j-preserved
 loop-j-preserved c =
     let before = c.loop-j in
     filled_more 0 before.invariant (omega (arith, c.requires.3, before.invariant.kept_length)) (omega arith)
-    (c.sum_place-value.ensures
+    (c.sum_place.ensures
     ∙ sym (tabulate_at (c.args.p.n + c.args.p.k) (place c.args.p c.args.rs.now c.args.a.now) before.j
     (omega (arith, c.requires.3, before.invariant.kept_length))))
 
@@ -39,9 +39,3 @@ offset_bounds-c1-j c = omega arith
 
 pub bounds-c1-j : goal.bounds-c1-j
 bounds-c1-j c = omega arith
-
-pub overflow_add-j : goal.overflow_add-j
-overflow_add-j c = omega arith
-
-pub loop-j-smaller : goal.loop-j-smaller
-loop-j-smaller c = omega (arith, c.loop-j.invariant.kept_length)

@@ -15,6 +15,3 @@ place p rs a j = sum_of_products p.t (p.k + 1) rs p.n a j % p.q
 
 abbrev pub invariant-loop-j : goal.invariant-loop-j
 invariant-loop-j l = Filled l.initial.c1 0 (l.p.n + l.p.k) (tabulate (l.p.n + l.p.k) (place l.p l.rs l.a)) l.j l.c1
-
-abbrev pub decreases-loop-j : goal.decreases-loop-j
-decreases-loop-j l = length l.initial.c1 - l.j

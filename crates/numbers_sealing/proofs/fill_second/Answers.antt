@@ -21,19 +21,15 @@ loop-j-init c =
 
 pub finish_place-requires : goal.finish_place-requires
 finish_place-requires c =
-    let pre = c.requires in
-    let more = c.loop-j-test.true in (
+    let pre = c.requires in (
       pre.0,
       pre.1,
       pre.2,
-      omega (arith, more, kept (goal.at.finish_place-requires c).At-loop-j),
-      omega (arith, more, kept (goal.at.finish_place-requires c).At-loop-j, pre.3),
-      pre.4 c.loop-j.j (omega (arith, more, kept (goal.at.finish_place-requires c).At-loop-j, pre.3)),
+      omega (arith, kept (goal.at.finish_place-requires c).At-loop-j),
+      omega (arith, kept (goal.at.finish_place-requires c).At-loop-j, pre.3),
+      pre.4 c.loop-j.j (omega (arith, kept (goal.at.finish_place-requires c).At-loop-j, pre.3)),
       kept (goal.at.finish_place-requires c).At-loop-j,
     )
-
-pub loop-j-smaller : goal.loop-j-smaller
-loop-j-smaller c = omega (arith, c.loop-j-test.true, kept (goal.at.loop-j-smaller c).At-loop-j)
 
 pub loop-j-preserved : goal.loop-j-preserved
 loop-j-preserved c = c.finish_place.ensures _ c.loop-j.invariant
@@ -42,4 +38,4 @@ pub shape_of-c2 : goal.shape_of-c2
 shape_of-c2 c = kept (goal.at.shape_of-c2 c).At-loop-j ∙ sym c.requires.5
 
 pub returns : goal.returns
-returns c = walked_all c.loop-j.invariant (omega (arith, c.loop-j-test.false, walked_length c.loop-j.invariant))
+returns c = walked_all c.loop-j.invariant (omega (arith, walked_length c.loop-j.invariant))

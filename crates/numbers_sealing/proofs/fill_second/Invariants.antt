@@ -7,6 +7,3 @@ use Rattle.numbers_sealing.proofs.fill_second.Given as goal
 
 abbrev pub invariant-loop-j : goal.invariant-loop-j
 invariant-loop-j l = Walked (finished l.p l.rs l.b l.m) l.initial.c2 l.j l.c2
-
-abbrev pub decreases-loop-j : goal.decreases-loop-j
-decreases-loop-j l = l.p.d - l.j

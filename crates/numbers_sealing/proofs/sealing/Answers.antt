@@ -8,7 +8,7 @@ use lib.ListN.{length}
 use borrow.Author.Tests.{eqb-true}
 use Rattle.calls.specs.Outcome.{outcome, accepted}
 use Rattle.calls.specs.Checks.{all_of}
-use Rattle.calls.proofs.Outcome.{leaves_accepted, leaves_refused}
+use Rattle.calls.proofs.Outcome.{leaves_accepted, leaves_refused, handed_on}
 use Rattle.calls.proofs.Checks.{all_of_each}
 use Rattle.sets.specs.Rules.{Rules}
 use Rattle.sets.proofs.Rules.{rules as set_rules}
@@ -19,7 +19,7 @@ use Rattle.numbers.proofs.MultiplierLaws.{accepted_multipliers}
 use Rattle.sets.specs.Derived.{error_count_of}
 use Rattle.sets.proofs.Counts.{errors_most}
 use Rattle.numbers.proofs.SealingLaws.{sealing_numbers}
-use Rattle.numbers_sealing.proofs.sealing.Goals.{After-numbers_checked-checked, Else-not-lengths_fit}
+use Rattle.numbers_sealing.proofs.sealing.Goals.{After-numbers_checked, Else-not-lengths_fit}
 use Rattle.numbers_sealing.proofs.sealing.Goals as goal
 
 pub returns-then-set-gt-LAST : goal.returns-then-set-gt-LAST
@@ -51,19 +51,19 @@ kept c =
     rw (← c.parameters_of-p.ensures) at (set_rules c.args.set (omega (arith, c.if-set-gt-LAST.false)))
 
 -- the numbers decide
-decided : (c : After-numbers_checked-checked)
+decided : (c : After-numbers_checked)
     → let args = c.args in
     sealing_answer args.set args.a.now args.b.now args.r.now args.message.now (length args.c1.now) (length args.c2.now)
-    ≡ outcome c.numbers_checked-checked.result
+    ≡ outcome c.numbers_checked.result
 decided c =
     let args = c.args in
     let known = c.parameters_of-p in
     sealing_numbers args.set known.result args.a.now args.b.now args.r.now args.message.now (length args.c1.now)
-    (length args.c2.now) known.ensures c.if-set-gt-LAST.false (lengths (goal.at.After-numbers_checked-checked c).Else-not-lengths_fit)
-    ∙ sym c.numbers_checked-checked.ensures
+    (length args.c2.now) known.ensures c.if-set-gt-LAST.false (lengths (goal.at.After-numbers_checked c).Else-not-lengths_fit)
+    ∙ sym c.numbers_checked.ensures
 
-pub numbers_checked-checked-requires : goal.numbers_checked-checked-requires
-numbers_checked-checked-requires c =
+pub numbers_checked-requires : goal.numbers_checked-requires
+numbers_checked-requires c =
     let each = all_of_each _ (lengths c) in
     let p = c.parameters_of-p.result in
     let keeps = kept c in
@@ -77,7 +77,7 @@ fill_both-requires c =
     let p = c.parameters_of-p.result in
     let each = all_of_each _ (lengths (goal.at.fill_both-requires c).Else-not-lengths_fit) in
     let keeps = kept (goal.at.fill_both-requires c).Else-not-lengths_fit in
-    let passed = sym c.numbers_checked-checked.ensures ∙ ap outcome c.in-Done.is in
+    let passed = sym c.in_ok-numbers_checked.ensures in
     let numbers = accepted_two p.q args.a.now args.b.now _ passed in
     let multipliers = accepted_multipliers p keeps _ args.r.now _ numbers.2 in (
       keeps,
@@ -93,16 +93,20 @@ fill_both-requires c =
       eqb-true _ _ each.1.1.1.1.1.0,
     )
 
-pub returns-in-Refused : goal.returns-in-Refused
+pub returns-in_err-numbers_checked : goal.returns-in_err-numbers_checked
 unfolding first_part_left second_part_left
-returns-in-Refused c =
-    let no = decided (goal.at.returns-in-Refused c).After-numbers_checked-checked ∙ ap outcome c.in-Refused.is in
-    record { answer = sym no; first = sym (leaves_refused _ _ no); second = sym (leaves_refused _ _ no) }
+returns-in_err-numbers_checked c =
+    let no = decided (goal.at.returns-in_err-numbers_checked c).After-numbers_checked ∙ ap outcome c.in_err-numbers_checked.was in
+    record {
+      answer = handed_on _ c.from_residual.result c.from_residual.ensures.1 ∙ sym no;
+      first = sym (leaves_refused _ _ no);
+      second = sym (leaves_refused _ _ no);
+    }
 
-pub returns-in-Done : goal.returns-in-Done
+pub returns : goal.returns
 unfolding first_part_left second_part_left
-returns-in-Done c =
-    let yes = decided (goal.at.returns-in-Done c).After-numbers_checked-checked ∙ ap outcome c.in-Done.is in
+returns c =
+    let yes = decided (goal.at.returns c).After-numbers_checked ∙ ap outcome c.in_ok-numbers_checked.was in
     let same = c.parameters_of-p.ensures in
     let written = c.fill_both.ensures in
     record { answer = sym yes; first = written.0 ∙ rw same (sym (leaves_accepted _ _ yes)); second = written.1 ∙ rw same (sym (leaves_accepted _ _ yes)) }

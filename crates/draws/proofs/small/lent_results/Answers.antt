@@ -1,6 +1,7 @@
 -- `draws::small::lent_results` meets its contract: the bytes of each result that the loop has passed are lent.
 -- Assumes nothing.
-use mathlib.Core.Path.{sym, ◌∙◌}
+use native.Mathlib.Omega.{arith}
+use mathlib.Core.Path.{◌≡◌, sym, ◌∙◌}
 use Prim.Native.Nat.{◌-◌}
 use Rattle.draws.proofs.Positions.{lent_none, lent_more, lent_stop, lent_all}
 use Rattle.draws.proofs.small.lent_results.Goals as goal
@@ -13,7 +14,7 @@ returns-then-not-is_lent c = lent_stop c.loop-i.invariant (sym c.is_lent.ensures
 
 pub loop-i-preserved : goal.loop-i-preserved
 loop-i-preserved c =
-    lent_more c.loop-i.invariant c.loop-i-test.true (sym c.is_lent.ensures ∙ c.if-not-is_lent.false)
+    lent_more c.loop-i.invariant (omega arith) (sym c.is_lent.ensures ∙ c.if-not-is_lent.false)
 
 pub returns : goal.returns
-returns c = lent_all c.loop-i.invariant c.loop-i-test.false
+returns c = let all : c.loop-i.i ≡ c.args.wanted = omega arith in rw all at (lent_all c.loop-i.invariant (omega arith))

@@ -6,6 +6,3 @@ use Rattle.draws.proofs.small.lent_results.Given as goal
 
 abbrev pub invariant-loop-i : goal.invariant-loop-i
 invariant-loop-i l = LentUpTo l.p l.bytes l.first l.wanted l.i
-
-abbrev pub decreases-loop-i : goal.decreases-loop-i
-decreases-loop-i l = l.wanted - l.i

@@ -8,7 +8,7 @@ use Rattle.middle.proofs.places.product_place.Goals.{After-product-sum}
 use Rattle.middle.proofs.places.product_place.Goals as goal
 
 pub loop-j-init : goal.loop-j-init
-loop-j-init c = part_none _ c.first_meeting-j.ensures
+loop-j-init c = part_none _ c.first_meeting-begin.ensures
 
 -- the term of a turn is small
 term_small : (c : After-product-sum) → c.product-sum.result < 2 ^ 48
@@ -27,4 +27,4 @@ loop-j-preserved c =
 
 pub returns : goal.returns
 returns c =
-    c.reduce.ensures ∙ rw (part_all c.loop-j.invariant c.end_meeting-end.ensures c.loop-j-test.false)
+    c.reduce.ensures ∙ rw (part_all c.loop-j.invariant c.end_meeting-end.ensures (omega arith))

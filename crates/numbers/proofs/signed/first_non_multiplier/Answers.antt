@@ -6,7 +6,7 @@ use Prim.Native.Nat.{◌-◌}
 use native.Mathlib.Nat.{zero-add}
 use native.Mathlib.Omega.{arith}
 use lib.IntN.{ℤ, pos}
-use lib.ListN.{get_or}
+use lib.ListN.{length, get_or}
 use borrow.Author.Count.{below_none, below_more}
 use Rattle.calls.proofs.Checks.{passing_is}
 use Rattle.numbers.specs.Calls.{is_multiplier_of}
@@ -40,6 +40,5 @@ loop-i-preserved c =
 
 pub returns : goal.returns
 returns c =
-    let at = c.loop-i in
-    passing_is (is_multiplier_of c.args.p) 0 c.args.rs.now (pos 0) at.i at.invariant.0 (λ k h. rw zero-add (at.invariant.1 k h))
-    (λ h. absurd (omega arith))
+    passing_is (is_multiplier_of c.args.p) 0 c.args.rs.now (pos 0) (length c.args.rs.now) (omega arith)
+    (λ k h. rw zero-add (c.loop-i.invariant.1 k (omega arith))) (λ h. absurd (omega arith))

@@ -10,6 +10,3 @@ use Rattle.numbers.proofs.signed.first_non_multiplier.Given as goal
 
 abbrev pub invariant-loop-i : goal.invariant-loop-i
 invariant-loop-i l = (l.i ≤ length l.rs) × ((k : ℕ) → k < l.i → is_multiplier_of l.p k (get_or l.rs k (pos 0)) ≡ true)
-
-abbrev pub decreases-loop-i : goal.decreases-loop-i
-decreases-loop-i l = length l.rs - l.i

@@ -20,8 +20,8 @@ bounds-zs-i c = omega (arith, c.requires.2)
 pub offset_bounds-zs-i : goal.offset_bounds-zs-i
 offset_bounds-zs-i c = omega (arith, c.requires.2)
 
-pub of_signed-value-requires : goal.of_signed-value-requires
-of_signed-value-requires c =
+pub of_signed-requires : goal.of_signed-requires
+of_signed-requires c =
     let i = c.loop-i.i in
     rw (entry_kept (get_or c.args.zs.now i (pos 0)) c.of_signed-arg-1.given)
     (c.requires.0, c.requires.1, c.requires.3 i (omega (arith, c.requires.2)))
@@ -30,7 +30,7 @@ pub loop-i-preserved : goal.loop-i-preserved
 loop-i-preserved c =
     let i = c.loop-i.i in
     filled_more 0 c.loop-i.invariant (omega arith) (omega arith)
-    (c.of_signed-value.ensures ∙ ap (residue c.args.q) (entry_kept (get_or c.args.zs.now i (pos 0)) c.of_signed-arg-1.given)
+    (c.of_signed.ensures ∙ ap (residue c.args.q) (entry_kept (get_or c.args.zs.now i (pos 0)) c.of_signed-arg-1.given)
     ∙ sym (residues_at c.args.q c.args.zs.now i))
 
 pub returns : goal.returns

@@ -8,6 +8,3 @@ use Rattle.numbers.proofs.signed.residues_of.Given as goal
 
 abbrev pub invariant-loop-i : goal.invariant-loop-i
 invariant-loop-i l = Filled l.initial.out 0 (length l.initial.out) (residues l.q l.zs) l.i l.out
-
-abbrev pub decreases-loop-i : goal.decreases-loop-i
-decreases-loop-i l = length l.initial.out - l.i

@@ -6,6 +6,3 @@ use Rattle.numbers.proofs.sums.sum_place.Given as goal
 
 abbrev pub invariant-loop-i : goal.invariant-loop-i
 invariant-loop-i l = Summed l.p.q l.p.t (product_terms l.m l.xs l.n l.ys l.place) l.i l.sum
-
-abbrev pub decreases-loop-i : goal.decreases-loop-i
-decreases-loop-i l = l.p.t - l.i

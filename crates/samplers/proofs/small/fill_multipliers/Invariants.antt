@@ -8,6 +8,3 @@ use Rattle.samplers.proofs.small.fill_multipliers.Given as goal
 
 abbrev pub invariant-loop-i : goal.invariant-loop-i
 invariant-loop-i l = Reduced l.p.q (multipliers_of l.p l.bytes) l.initial.out l.i l.out
-
-abbrev pub decreases-loop-i : goal.decreases-loop-i
-decreases-loop-i l = length l.initial.out - l.i
