@@ -5,7 +5,10 @@ use mathlib.Core.Bool.{Bool, true, false}
 use mathlib.Core.List.{List}
 use Prim.Native.Nat.{ℕ}
 use native.Mathlib.Omega.{arith}
-use Rattle.calls.specs.Outcome.{Outcome, accepted, refused, refuse, leaves, and_then}
+use Rattle.std.specs.Prelude.{⊤, Result, Err, IsErrAnd}
+use Rattle.std.proofs.lemmas.Result.{err_from_is_err_and}
+use Rattle.calls.specs.declared.Refusal.{Refusal}
+use Rattle.calls.specs.Outcome.{Outcome, accepted, refused, refuse, leaves, and_then, outcome}
 
 -- an accepted call is not refused
 pub accepted_refused : {o : Outcome} {number place : ℕ} → o ≡ accepted → o ≡ refused number place → ⊥
@@ -51,3 +54,16 @@ module _ {A : Type 0} {o : Outcome} (new old : List A) where
   -- an accepted call: the answer, and the output as written
   pub accepted_call : {written : List A} → o ≡ accepted → written ≡ new → (accepted ≡ o) × (written ≡ leaves o new old)
   accepted_call e w = (sym e, w ∙ sym (leaves_accepted new old e))
+
+-- what `?` hands on is the refusal that was met
+pub handed_on : (e : Refusal) (r : Result ⊤ Refusal) → IsErrAnd r (λ y. y ≡ e) → outcome r ≡ outcome (Err e)
+handed_on e r h = let same = err_from_is_err_and r h in rw (same.1, same.2) refl
+
+-- a call that hands on the refusal of a check: the answer, and the output as it was
+pub handed_call : {A : Type 0} {o : Outcome} (new old : List A) (e : Refusal) (r : Result ⊤ Refusal) → IsErrAnd r (λ y. y ≡ e) → o ≡ outcome (Err e)
+    → (outcome r ≡ o) × (old ≡ leaves o new old)
+handed_call new old e r h met = let whole = refused_call new old met in (handed_on e r h ∙ whole.0, whole.1)
+
+-- what `?` hands on is the refusal that was met, turned into one of a call
+pub handed_as : {o : Outcome} (r : Result ⊤ Refusal) → IsErrAnd r (λ y. outcome (Err y) ≡ o) → outcome r ≡ o
+handed_as r h = let same = err_from_is_err_and r h in rw (same.1, same.2)
