@@ -14,7 +14,7 @@ pub store_vectors-requires : goal.store_vectors-requires
 store_vectors-requires c =
     let pre = c.requires in
     let secret = c.draw_secret in
-    let drawn = draw_accepted _ accepted c.in_ok-draw_secret.ensures.answer in (
+    let drawn = draw_accepted _ accepted (sym c.in_ok-draw_secret.ensures.answer) in (
       pre.0,
       pre.1,
       pre.3,
@@ -36,7 +36,7 @@ returns c =
     let pre = c.requires in
     let secret = c.draw_secret in
     let vectors = c.store_vectors in
-    let drawn = draw_accepted _ accepted c.in_ok-draw_secret.ensures.answer in record {
+    let drawn = draw_accepted _ accepted (sym c.in_ok-draw_secret.ensures.answer) in record {
       answer = vectors.ensures.answer ∙ sym (refuse_taken _ drawn.0);
       result = λ e.
           key_stored c.args.p pre.0 pre.1 c.args.seedsk.now secret.new.work (secret.ensures.result drawn.0)

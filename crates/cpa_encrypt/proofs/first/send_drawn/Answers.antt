@@ -4,6 +4,7 @@ use mathlib.Core.Path.{◌≡◌, sym, ap, ◌∙◌}
 use Prim.Native.Nat.{◌-◌}
 use native.Mathlib.Omega.{arith}
 use lib.ListN.{length, take, drop}
+use Rattle.std.proofs.lemmas.Result.{err_from_is_err_and}
 use Rattle.draws.specs.Uniform.{taken}
 use Rattle.byte_source.specs.Source.{State, state_at}
 use Rattle.samplers.specs.Blocks.{uniform, uniform_answer, onward}
@@ -11,7 +12,7 @@ use Rattle.calls.proofs.Parts.{front_length}
 use Rattle.sets.proofs.Rules.{listed_rules}
 use Rattle.cpa_encrypt.proofs.Adding.{polynomial_fits, answer_whole, drawn_numbers, drawn_refused, drawn_placed, drawn_sent}
 use borrow.Author.Rules.{rules}
-use Rattle.cpa_encrypt.proofs.first.send_drawn.Goals.{After-residues_from, In_ok-next, Start}
+use Rattle.cpa_encrypt.proofs.first.send_drawn.Goals.{In_ok-next, Start}
 use Rattle.cpa_encrypt.proofs.first.send_drawn.Goals as goal
 
 -- the state before the draw
@@ -51,24 +52,25 @@ send_first-requires c =
     let placed = drawn_placed c.args.p c.requires.1 (state (goal.at.send_first-requires c).Start) c.args.y.now _ c.requires.5 in
     (c.requires.1, c.requires.2, placed (drawn (goal.at.send_first-requires c).In_ok-next))
 
--- the answer is that of a draw of n numbers
-answered : (c : After-residues_from)
-    → onward c.args.seed.now c.residues_from.result ≡ uniform_answer c.args.p (state (goal.at.After-residues_from c).Start) c.args.p.bytpca
-    c.args.p.n
-answered c =
-    c.residues_from.ensures.answer ∙ answer_whole c.args.p (state (goal.at.After-residues_from c).Start) _
-    (front_size (goal.at.After-residues_from c).Start)
+-- the answer of the draw is that of n numbers
+whole : (c : Start) → let p = c.args.p in
+    uniform_answer p (state c) p.bytpca (length (take (p.n - 0) (drop 0 c.args.y.now))) ≡ uniform_answer p (state c) p.bytpca p.n
+whole c = answer_whole c.args.p (state c) _ (front_size c)
 
 pub returns-in_err-next : goal.returns-in_err-next
 returns-in_err-next c =
     let told = sym c.in_err-next.ensures.answer in
     let none = drawn_refused c.args.p (state (goal.at.returns-in_err-next c).Start) _ (front_size (goal.at.returns-in_err-next c).Start) c.requires.0.some_bytpca
-    _ told in record { answer = answered (goal.at.returns-in_err-next c).After-residues_from; result = λ xs u. absurd (none xs u) }
+    _ told in
+    let same = err_from_is_err_and c.from_residual.result c.from_residual.ensures.1 in record {
+      answer = rw (same.1, same.2) c.in_err-next.ensures.answer ∙ whole (goal.at.returns-in_err-next c).Start;
+      result = λ xs u. absurd (none xs u);
+    }
 
 pub returns : goal.returns
 returns c =
     record {
-      answer = answered (goal.at.returns c).After-residues_from;
+      answer = c.in_ok-next.ensures.answer ∙ whole (goal.at.returns c).Start;
       result = drawn_sent c.args.p c.requires.1 (state (goal.at.returns c).Start)
           c.args.y.now _ c.requires.5 (drawn (goal.at.returns c).In_ok-next) _ c.send_first.ensures;
     }

@@ -3,10 +3,8 @@
 use mathlib.Core.Path.{refl, sym, ap, ◌∙◌}
 use Prim.Native.Nat.{ℕ, ◌-◌, ◌<◌}
 use native.Mathlib.Omega.{arith}
-use Rattle.calls.specs.Outcome.{refused}
-use Rattle.calls.proofs.Outcome.{accepted_refused}
+use Rattle.calls.proofs.Outcome.{accepted_refused, handed_as}
 use Rattle.byte_source.specs.Source.{state_at}
-use Rattle.samplers.specs.Blocks.{onward, refused_by}
 use Rattle.sets.proofs.Rules.{listed_rules}
 use Rattle.ntt_products.proofs.Laws.{rules_odd}
 use Rattle.cpa_encrypt.proofs.Adding.{adding_none, adding_more, adding_addends, adding_all}

@@ -2,6 +2,7 @@
 -- Assumes nothing.
 use mathlib.Core.Path.{sym, ap, ◌∙◌}
 use Prim.Native.Nat.{◌+◌, ◌*◌}
+use Rattle.std.proofs.lemmas.Result.{err_from_is_err_and}
 use Rattle.calls.specs.Region.{over}
 use Rattle.samplers.specs.Blocks.{onward}
 use Rattle.samplers.specs.Seeded.{public_drawn}
@@ -17,7 +18,8 @@ returns-in_err-next c =
     let none =
     stopped _ _ (public_drawn p seed c.args.i) (λ xs run. public_never_ends p c.requires.0 seed xs run c.args.i)
     c.in_err-next.ensures.answer in
-    record { answer = c.draw_polynomial.ensures.answer; result = λ t. absurd (true_false t none.not_taken) }
+    let same = err_from_is_err_and c.from_residual.result c.from_residual.ensures.1 in
+    record { answer = rw (same.1, same.2) c.in_err-next.ensures.answer; result = λ t. absurd (true_false t none.not_taken) }
 
 pub key_vector-requires : goal.key_vector-requires
 key_vector-requires c =
@@ -44,7 +46,7 @@ returns c =
     let p = c.args.p in
     let work = c.args.work.now in
     let polynomial = c.draw_polynomial in record {
-      answer = polynomial.ensures.answer;
+      answer = c.in_ok-next.ensures.answer;
       result = λ t.
           c.store_vector.ensures
           ∙ ap (over work (vectors_start_of p + p.d1 * c.args.i))
