@@ -63,3 +63,7 @@ handed_on e r h = let same = err_from_is_err_and r h in rw (same.1, same.2) refl
 pub handed_call : {A : Type 0} {o : Outcome} (new old : List A) (e : Refusal) (r : Result ⊤ Refusal) → IsErrAnd r (λ y. y ≡ e) → o ≡ outcome (Err e)
     → (outcome r ≡ o) × (old ≡ leaves o new old)
 handed_call new old e r h met = let whole = refused_call new old met in (handed_on e r h ∙ whole.0, whole.1)
+
+-- what `?` hands on is the refusal that was met, turned into one of a call
+pub handed_as : {o : Outcome} (r : Result ⊤ Refusal) → IsErrAnd r (λ y. outcome (Err y) ≡ o) → outcome r ≡ o
+handed_as r h = let same = err_from_is_err_and r h in rw (same.1, same.2)

@@ -28,13 +28,11 @@ fn sum_stored(
         (λ i. vector p.d1 numbers.now i) }
 {
     let k = montgomery::negated_inverse(p.q);
-    let mut i: usize = 0;
-    while i < p.t {
+    for i in 0..p.t {
         crate::vectors::send_multipliers(p, 1, tables, multipliers, i, x);
         let from = p.d1 * i;
         let end = from + p.d1;
         ntt_products::accumulate(total, x, &numbers[from..end], p.q, k);
-        i += 1;
     }
 }
 

@@ -65,10 +65,8 @@ fn add_errors(x: &mut [u32], errors: &[u32], q: u32)
         × (q < 2 ^ 24) }
     ensures { x.new ≡ over x.old 0 (sums q x.old errors.now) }
 {
-    let mut j: usize = 0;
-    while j < errors.len() {
-        x[j] = residues::add(x[j], errors[j], q);
-        j += 1;
+    for (j, error) in errors.iter().enumerate() {
+        x[j] = residues::add(x[j], *error, q);
     }
 }
 
@@ -148,9 +146,8 @@ fn all_vectors(
     ensures result { all_taken p.t (public_drawn p seed.now) ≡ true → work.new ≡ over work.old (vectors_start_of p)
         (joined p.t (stored_vector p seed.now work.old)) }
 {
-    let t = p.t;
     let mut counter: u32 = 0;
-    for i in 0..t {
+    for i in 0..p.t {
         counter = next_vector(p, seed, i, counter, tables, inverse_tables, x, work)?;
     }
     Ok(())

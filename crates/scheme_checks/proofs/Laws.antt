@@ -4,7 +4,10 @@ use mathlib.Core.Path.{◌≡◌, refl, sym, ◌∙◌}
 use mathlib.Core.List.{List}
 use Prim.Native.Nat.{ℕ}
 use lib.ListN.{length, replicate}
-use Rattle.calls.specs.Outcome.{Outcome, accepted, refused, and_then, leaves}
+use Rattle.std.specs.Prelude.{⊤, Result, Err, IsErrAnd}
+use Rattle.calls.specs.declared.Refusal.{Refusal}
+use Rattle.calls.specs.Outcome.{Outcome, accepted, and_then, leaves, outcome}
+use Rattle.calls.proofs.Outcome.{handed_on}
 use Rattle.scheme.specs.Answers.{work_left}
 
 -- what a call with these checks and draws promises: its answer, an output, the work slice
@@ -19,24 +22,26 @@ TwoLeft checked draws o new old out new₂ old₂ out₂ work left =
     × ((out ≡ leaves (and_then checked draws) new old)
     × ((out₂ ≡ leaves (and_then checked draws) new₂ old₂) × (left ≡ work_left checked work)))
 
-module _ {checked o : Outcome} (draws : Outcome) (work new old : List ℕ) where
-  -- the checks refuse, and nothing is written
-  pub one_refused : {number place : ℕ} → o ≡ checked → o ≡ refused number place → OneLeft checked draws o new old old work work
+module _ {checked : Outcome} (draws : Outcome) (work new old : List ℕ) where
+  -- the checks refuse, which `?` hands on, and nothing is written
+  pub one_refused : (e : Refusal) (r : Result ⊤ Refusal) → IsErrAnd r (λ y. y ≡ e) → outcome (Err e) ≡ checked
+      → OneLeft checked draws (outcome r) new old old work work
   unfolding work_left
-  one_refused e told = rw (sym e ∙ told) (told, (refl, refl))
+  one_refused e r handed met = rw (sym met) (handed_on e r handed, (refl, refl))
 
   -- they pass: the draws decide, and the work slice is cleared
-  pub one_drawn : {out left : List ℕ} → checked ≡ accepted → (o ≡ draws) × (out ≡ leaves draws new old) → left ≡ replicate (length work) 0
+  pub one_drawn : {o : Outcome} {out left : List ℕ} → checked ≡ accepted → (o ≡ draws) × (out ≡ leaves draws new old) → left ≡ replicate (length work) 0
       → OneLeft checked draws o new old out work left
   unfolding work_left
   one_drawn e made cleared = rw e (made.0, (made.1, cleared))
 
   module _ (new₂ old₂ : List ℕ) where
-    pub two_refused : {number place : ℕ} → o ≡ checked → o ≡ refused number place → TwoLeft checked draws o new old old new₂ old₂ old₂ work work
+    pub two_refused : (e : Refusal) (r : Result ⊤ Refusal) → IsErrAnd r (λ y. y ≡ e) → outcome (Err e) ≡ checked
+        → TwoLeft checked draws (outcome r) new old old new₂ old₂ old₂ work work
     unfolding work_left
-    two_refused e told = rw (sym e ∙ told) (told, (refl, (refl, refl)))
+    two_refused e r handed met = rw (sym met) (handed_on e r handed, (refl, (refl, refl)))
 
-    pub two_drawn : {out out₂ left : List ℕ} → checked ≡ accepted
+    pub two_drawn : {o : Outcome} {out out₂ left : List ℕ} → checked ≡ accepted
         → (o ≡ draws) × ((out ≡ leaves draws new old) × (out₂ ≡ leaves draws new₂ old₂)) → left ≡ replicate (length work) 0
         → TwoLeft checked draws o new old out new₂ old₂ out₂ work left
     unfolding work_left

@@ -49,8 +49,7 @@ pub fn seal_and_read(
         sealed.len(),
         work.len(),
     )?;
-    let made = encryption::key(set, seed, public, secret, work);
-    made?;
+    encryption::key(set, seed, public, secret, work)?;
     encryption::encrypt(set, public, message, sealing, sealed, work);
     encryption::decrypt(set, secret, sealed, read, work)
 }

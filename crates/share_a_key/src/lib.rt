@@ -51,8 +51,7 @@ pub fn share_a_key(
         sealed.len(),
         work.len(),
     )?;
-    let made = exchange::key(set, seed, public, secret, work);
-    made?;
+    exchange::key(set, seed, public, secret, work)?;
     exchange::encapsulate(set, public, message, sealed, sent, work);
     exchange::decapsulate(set, secret, sealed, received, work)
 }

@@ -6,13 +6,13 @@ use Prim.Native.Nat.{ℕ, ◌-◌, ◌≤◌}
 use native.Mathlib.Omega.{arith}
 use lib.ListN.{length, take, drop}
 use Rattle.calls.specs.Outcome.{refused}
-use Rattle.calls.proofs.Outcome.{refused_call, accepted_call}
+use Rattle.calls.proofs.Outcome.{refused_call, accepted_call, handed_as}
 use Rattle.sets.specs.declared.Parameters.{Parameters}
 use Rattle.sets.specs.Derived.{transform_size_of}
 use Rattle.sets.proofs.Rules.{listed_rules}
-use Rattle.samplers.specs.declared.Advance.TheVariants.{Counter}
+use Rattle.std.specs.Prelude.{Ok}
 use Rattle.byte_source.specs.Source.{state_at, initial}
-use Rattle.samplers.specs.Blocks.{uniform, uniform_answer, onward, refused_by}
+use Rattle.samplers.specs.Blocks.{uniform, uniform_answer, onward}
 use Rattle.samplers.proofs.Laws.{Onto, answer_onto, answer_refusal}
 use Rattle.ntt_products.specs.Placed.{Placed}
 use Rattle.scheme.specs.Encryption.{stored_secret}
@@ -22,14 +22,14 @@ use Rattle.cpa_decrypt.proofs.Secret.{secret_taken, secret_refused, secret_place
 use Rattle.calls.proofs.Parts.{front_length, part_front, front_room}
 use Rattle.cpa_decrypt.proofs.Room.{secret_room}
 use borrow.Author.Rules.{rules}
-use Rattle.cpa_decrypt.proofs.decrypt.Goals.{After-residues_from-drawn}
+use Rattle.cpa_decrypt.proofs.decrypt.Goals.{After-residues_from}
 use Rattle.cpa_decrypt.proofs.decrypt.Goals as goal
 
 pub slice_bounds-residues_from-end : goal.slice_bounds-residues_from-end
 slice_bounds-residues_from-end c = rw c.requires.5 (secret_room c.args.p)
 
-pub residues_from-drawn-requires : goal.residues_from-drawn-requires
-residues_from-drawn-requires c =
+pub residues_from-requires : goal.residues_from-requires
+residues_from-requires c =
     let p = c.args.p in
     let kept = listed_rules p c.requires.1 in
     let bytes = c.requires.0 in
@@ -40,7 +40,7 @@ residues_from-drawn-requires c =
     })
 
 -- after the draw: the secret's seed, the set's parameters, the work slice before, and what the draw left at its front
-module _ (c : After-residues_from-drawn) where
+module _ (c : After-residues_from) where
   abbrev seed : List ℕ
   seed = c.args.seed.now
 
@@ -51,7 +51,7 @@ module _ (c : After-residues_from-drawn) where
   work = c.args.work.now
 
   abbrev drawn : List ℕ
-  drawn = c.residues_from-drawn.new.out
+  drawn = c.residues_from.new.out
 
   -- a stored secret has room
   room : p.d3 ≤ length work
@@ -59,13 +59,13 @@ module _ (c : After-residues_from-drawn) where
 
   -- as many numbers are drawn as it has
   drawn_length : length drawn ≡ p.d3
-  drawn_length = omega (arith, c.residues_from-drawn.auto, front_length work p.d3 room)
+  drawn_length = omega (arith, c.residues_from.auto, front_length work p.d3 room)
 
   -- the draw is the one that the definition makes
-  answered : uniform_answer p (initial seed) p.bytpcs p.d3 ≡ onward seed c.residues_from-drawn.result
-  answered = sym (rw (front_length work p.d3 room) at c.residues_from-drawn.ensures.answer)
+  answered : uniform_answer p (initial seed) p.bytpcs p.d3 ≡ onward seed c.residues_from.result
+  answered = sym (rw (front_length work p.d3 room) at c.residues_from.ensures.answer)
 
-  module _ {next : ℕ} (told : c.residues_from-drawn.result ≡ Counter next) where
+  module _ {next : ℕ} (told : c.residues_from.result ≡ Ok next) where
     -- a draw with a counter has its numbers
     secret : Onto (uniform p (initial seed) p.bytpcs p.d3).drawn (uniform p (initial seed) p.bytpcs p.d3).next (state_at seed next)
     secret = answer_onto p (initial seed) p.bytpcs p.d3 (state_at seed next) (answered ∙ ap (onward seed) told)
@@ -74,7 +74,7 @@ module _ (c : After-residues_from-drawn) where
     stored : take (p.d3 - 0) (drawn ++ drop (p.d3 - 0) work) ≡ stored_secret p seed
     stored =
         part_front drawn _ p.d3 drawn_length
-        ∙ c.residues_from-drawn.ensures.result secret.xs
+        ∙ c.residues_from.ensures.result secret.xs
         (ap (λ (n : ℕ). (uniform p (initial seed) p.bytpcs n).drawn) (front_length work p.d3 room) ∙ secret.drawn_is)
         ∙ sym (secret_taken p seed secret.xs secret.drawn_is).1
 
@@ -86,44 +86,44 @@ module _ (c : After-residues_from-drawn) where
 
 pub slice_bounds-read-end : goal.slice_bounds-read-end
 slice_bounds-read-end c =
-    front_room (drawn (goal.at.slice_bounds-read-end c).After-residues_from-drawn) _ (p (goal.at.slice_bounds-read-end c).After-residues_from-drawn).d3
-    (drawn_length (goal.at.slice_bounds-read-end c).After-residues_from-drawn)
+    front_room (drawn (goal.at.slice_bounds-read-end c).After-residues_from) _ (p (goal.at.slice_bounds-read-end c).After-residues_from).d3
+    (drawn_length (goal.at.slice_bounds-read-end c).After-residues_from)
 
 pub read-requires : goal.read-requires
 read-requires c =
-    let told = c.in-Counter.is in (
+    let told = c.in_ok-residues_from.was in (
       c.requires.0,
       c.requires.1,
       c.requires.3,
-      subst⁻¹ (λ (l : List ℕ). Placed (p (goal.at.read-requires c).After-residues_from-drawn) 3
-          (transform_size_of (p (goal.at.read-requires c).After-residues_from-drawn) 3) l) (stored (goal.at.read-requires c).After-residues_from-drawn told)
-          (stored_placed (goal.at.read-requires c).After-residues_from-drawn told),
+      subst⁻¹ (λ (l : List ℕ). Placed (p (goal.at.read-requires c).After-residues_from) 3
+          (transform_size_of (p (goal.at.read-requires c).After-residues_from) 3) l) (stored (goal.at.read-requires c).After-residues_from told)
+          (stored_placed (goal.at.read-requires c).After-residues_from told),
       c.requires.4,
     )
 
-pub returns-in_default : goal.returns-in_default
-returns-in_default c =
-    let told = c.in_default.is in
+pub returns-in_err-residues_from : goal.returns-in_err-residues_from
+returns-in_err-residues_from c =
+    let told = c.in_err-residues_from.was in
     let bytes = c.requires.0 in
-    let none = answer_refusal (p (goal.at.returns-in_default c).After-residues_from-drawn)
-    (initial (seed (goal.at.returns-in_default c).After-residues_from-drawn)) (p (goal.at.returns-in_default c).After-residues_from-drawn).bytpcs
-    (p (goal.at.returns-in_default c).After-residues_from-drawn).d3 bytes.some_bytpcs _ (answered (goal.at.returns-in_default c).After-residues_from-drawn
-    ∙ ap (onward (seed (goal.at.returns-in_default c).After-residues_from-drawn)) told) in
-    let five = c.refusal_of.ensures ∙ ap refused_by told ∙ none.0 in
-    let call = refused_call _ _ (secret_refused (p (goal.at.returns-in_default c).After-residues_from-drawn)
-    (seed (goal.at.returns-in_default c).After-residues_from-drawn) none.1) in record { answer = ap (λ (k : ℕ). refused k 0) five ∙ call.0; read = call.1 }
+    let none = answer_refusal (p (goal.at.returns-in_err-residues_from c).After-residues_from)
+    (initial (seed (goal.at.returns-in_err-residues_from c).After-residues_from)) (p (goal.at.returns-in_err-residues_from c).After-residues_from).bytpcs
+    (p (goal.at.returns-in_err-residues_from c).After-residues_from).d3 bytes.some_bytpcs _ (answered (goal.at.returns-in_err-residues_from c).After-residues_from
+    ∙ ap (onward (seed (goal.at.returns-in_err-residues_from c).After-residues_from)) told) in
+    let five = handed_as c.from_residual.result c.from_residual.ensures.1 ∙ ap (λ (k : ℕ). refused k 0) none.0 in
+    let call = refused_call _ _ (secret_refused (p (goal.at.returns-in_err-residues_from c).After-residues_from)
+    (seed (goal.at.returns-in_err-residues_from c).After-residues_from) none.1) in record { answer = five ∙ call.0; read = call.1 }
 
 pub returns : goal.returns
 returns c =
     let ct = c.args.ciphertext.now in
-    let told = c.in-Counter.is in
-    let found = secret (goal.at.returns c).After-residues_from-drawn told in
-    let whole = accepted_call _ _ (secret_taken (p (goal.at.returns c).After-residues_from-drawn) (seed (goal.at.returns c).After-residues_from-drawn) found.xs
+    let told = c.in_ok-residues_from.was in
+    let found = secret (goal.at.returns c).After-residues_from told in
+    let whole = accepted_call _ _ (secret_taken (p (goal.at.returns c).After-residues_from) (seed (goal.at.returns c).After-residues_from) found.xs
     found.drawn_is).0
     (c.read.ensures
-    ∙ ap (λ (l : List ℕ). decrypted_message_from (p (goal.at.returns c).After-residues_from-drawn) l ct) (stored (goal.at.returns c).After-residues_from-drawn
+    ∙ ap (λ (l : List ℕ). decrypted_message_from (p (goal.at.returns c).After-residues_from) l ct) (stored (goal.at.returns c).After-residues_from
     told)
-    ∙ opened_message (p (goal.at.returns c).After-residues_from-drawn) (seed (goal.at.returns c).After-residues_from-drawn) ct) in record {
+    ∙ opened_message (p (goal.at.returns c).After-residues_from) (seed (goal.at.returns c).After-residues_from) ct) in record {
       answer = whole.0;
       read = whole.1;
     }

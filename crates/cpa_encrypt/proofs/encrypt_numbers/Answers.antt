@@ -5,12 +5,12 @@ use mathlib.Core.List.{List, ◌++◌}
 use Prim.Native.Nat.{ℕ, ◌+◌, ◌-◌, ◌≤◌}
 use native.Mathlib.Omega.{arith}
 use lib.ListN.{length, take, drop}
-use Rattle.calls.specs.Outcome.{outcome}
+use Rattle.calls.proofs.Outcome.{handed_on}
 use Rattle.scheme.specs.Encryption.{second_bytes}
 use Rattle.calls.proofs.Parts.{front_length, back_length, rest_length, front_refused}
 use Rattle.sets.proofs.Rules.{listed_rules}
 use Rattle.cpa_encrypt.proofs.Sealed.{both_accepted, ends}
-use Rattle.cpa_encrypt.proofs.encrypt_numbers.Goals.{After-encrypt_first-first, After-packed_bytes-middle}
+use Rattle.cpa_encrypt.proofs.encrypt_numbers.Goals.{After-encrypt_first, After-packed_bytes-middle}
 use Rattle.cpa_encrypt.proofs.encrypt_numbers.Goals as goal
 
 pub overflow_cast-p : goal.overflow_cast-p
@@ -38,35 +38,35 @@ slice_bounds-encrypt_first-end c = fits c
 front_size : (c : After-packed_bytes-middle) → length (take (c.packed_bytes-middle.result - 0) (drop 0 (lent c))) ≡ c.packed_bytes-middle.result
 front_size c = front_length (lent c) c.packed_bytes-middle.result (fits c)
 
-pub encrypt_first-first-requires : goal.encrypt_first-first-requires
-encrypt_first-first-requires c =
+pub encrypt_first-requires : goal.encrypt_first-requires
+encrypt_first-requires c =
     let pre = c.requires in (
       pre.0,
       pre.1,
       pre.2,
       pre.4,
-      front_size (goal.at.encrypt_first-first-requires c).After-packed_bytes-middle ∙ c.packed_bytes-middle.ensures ∙
+      front_size (goal.at.encrypt_first-requires c).After-packed_bytes-middle ∙ c.packed_bytes-middle.ensures ∙
           (ends c.args.p pre.1).first_is,
     )
 
 -- the first part has its length, and so has the whole ciphertext after it is written
-first_size : (c : After-encrypt_first-first) → length c.encrypt_first-first.new.out ≡ c.packed_bytes-middle.result
-first_size c = c.encrypt_first-first.auto.out ∙ front_size (goal.at.After-encrypt_first-first c).After-packed_bytes-middle
+first_size : (c : After-encrypt_first) → length c.encrypt_first.new.out ≡ c.packed_bytes-middle.result
+first_size c = c.encrypt_first.auto.out ∙ front_size (goal.at.After-encrypt_first c).After-packed_bytes-middle
 
-abbrev written : After-encrypt_first-first → List ℕ
-written c = let ct = lent (goal.at.After-encrypt_first-first c).After-packed_bytes-middle in
-    take 0 ct ++ (c.encrypt_first-first.new.out ++ drop (c.packed_bytes-middle.result - 0) (drop 0 ct))
+abbrev written : After-encrypt_first → List ℕ
+written c = let ct = lent (goal.at.After-encrypt_first c).After-packed_bytes-middle in
+    take 0 ct ++ (c.encrypt_first.new.out ++ drop (c.packed_bytes-middle.result - 0) (drop 0 ct))
 
-whole_size : (c : After-encrypt_first-first) → length (written c) ≡ length (lent (goal.at.After-encrypt_first-first c).After-packed_bytes-middle)
+whole_size : (c : After-encrypt_first) → length (written c) ≡ length (lent (goal.at.After-encrypt_first c).After-packed_bytes-middle)
 whole_size c =
-    back_length (lent (goal.at.After-encrypt_first-first c).After-packed_bytes-middle) c.encrypt_first-first.new.out c.packed_bytes-middle.result
-    (first_size c) (fits (goal.at.After-encrypt_first-first c).After-packed_bytes-middle)
+    back_length (lent (goal.at.After-encrypt_first c).After-packed_bytes-middle) c.encrypt_first.new.out c.packed_bytes-middle.result
+    (first_size c) (fits (goal.at.After-encrypt_first c).After-packed_bytes-middle)
 
 pub slice_bounds-encrypt_second-count : goal.slice_bounds-encrypt_second-count
 slice_bounds-encrypt_second-count c =
     omega (
       arith,
-      whole_size (goal.at.slice_bounds-encrypt_second-count c).After-encrypt_first-first,
+      whole_size (goal.at.slice_bounds-encrypt_second-count c).After-encrypt_first,
       fits (goal.at.slice_bounds-encrypt_second-count c).After-packed_bytes-middle,
     )
 
@@ -74,7 +74,7 @@ pub slice_bounds-encrypt_second-start : goal.slice_bounds-encrypt_second-start
 slice_bounds-encrypt_second-start c =
     omega (
       arith,
-      whole_size (goal.at.slice_bounds-encrypt_second-start c).After-encrypt_first-first,
+      whole_size (goal.at.slice_bounds-encrypt_second-start c).After-encrypt_first,
       fits (goal.at.slice_bounds-encrypt_second-start c).After-packed_bytes-middle,
     )
 
@@ -88,21 +88,21 @@ encrypt_second-requires c =
       pre.1,
       pre.3,
       pre.4,
-      rest_length (written (goal.at.encrypt_second-requires c).After-encrypt_first-first) bytes.result (second_bytes p)
-          (whole_size (goal.at.encrypt_second-requires c).After-encrypt_first-first ∙ pre.5 ∙ ending.whole_is ∙ ap (λ (n : ℕ). n + second_bytes p)
+      rest_length (written (goal.at.encrypt_second-requires c).After-encrypt_first) bytes.result (second_bytes p)
+          (whole_size (goal.at.encrypt_second-requires c).After-encrypt_first ∙ pre.5 ∙ ending.whole_is ∙ ap (λ (n : ℕ). n + second_bytes p)
           (sym (bytes.ensures ∙ ending.first_is))),
     )
 
-pub returns-in_default : goal.returns-in_default
-returns-in_default c =
-    let made = c.encrypt_first-first.ensures in
-    let told = ap outcome c.in_default.is in
-    let call = front_refused (lent (goal.at.returns-in_default c).After-packed_bytes-middle) _ _ _ c.packed_bytes-middle.result (sym made.answer ∙ told)
+pub returns-in_err-encrypt_first : goal.returns-in_err-encrypt_first
+returns-in_err-encrypt_first c =
+    let made = c.in_err-encrypt_first.ensures in
+    let told = handed_on _ c.from_residual.result c.from_residual.ensures.1 in
+    let call = front_refused (lent (goal.at.returns-in_err-encrypt_first c).After-packed_bytes-middle) _ _ _ c.packed_bytes-middle.result (sym made.answer)
     made.left in record { answer = told ∙ call.0; sealed = call.1 }
 
 pub returns : goal.returns
 returns c =
-    let made = c.encrypt_first-first.ensures in
-    let done = sym made.answer ∙ ap outcome c.in-Done.is in
+    let made = c.in_ok-encrypt_first.ensures in
+    let done = sym made.answer in
     let whole = both_accepted (lent (goal.at.returns c).After-packed_bytes-middle) _ _ _ _ c.packed_bytes-middle.result done
-    (first_size (goal.at.returns c).After-encrypt_first-first) made.left c.encrypt_second.ensures in record { answer = whole.0; sealed = whole.1 }
+    (first_size (goal.at.returns c).After-encrypt_first) made.left c.encrypt_second.ensures in record { answer = whole.0; sealed = whole.1 }

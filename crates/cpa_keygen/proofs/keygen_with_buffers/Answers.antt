@@ -1,10 +1,9 @@
 -- The two seeds are those of the definition, the draws from them decide, and only then are the outputs written.
 -- Assumes nothing.
-use mathlib.Core.Path.{◌≡◌, sym, ap, ◌∙◌}
+use mathlib.Core.Path.{◌≡◌, refl, sym, ap, ◌∙◌}
 use native.Mathlib.Omega.{arith}
 use lib.ListN.{length}
-use Rattle.calls.specs.Outcome.{outcome}
-use Rattle.calls.proofs.Outcome.{leaves_accepted, leaves_refused}
+use Rattle.calls.proofs.Outcome.{leaves_accepted, leaves_refused, handed_on}
 use Rattle.calls.proofs.Region.{over_whole}
 use Rattle.byte_source.specs.Source.{State, initial}
 use Rattle.byte_source.proofs.Laws.{output_most}
@@ -38,48 +37,46 @@ module _ (c : After-source_bytes) where
       public_made c.args.p c.args.seed.now c.requires.6 _ c.requires.7 c.source_bytes-next.ensures.state
       c.source_bytes.ensures.bytes
 
-pub store_key-stored-requires : goal.store_key-stored-requires
-store_key-stored-requires c =
+pub store_key-requires : goal.store_key-requires
+store_key-requires c =
     let pre = c.requires in (
       pre.0,
       pre.1,
-      secret_size (goal.at.store_key-stored-requires c).After-source_bytes-next,
-      public_size (goal.at.store_key-stored-requires c).After-source_bytes,
+      secret_size (goal.at.store_key-requires c).After-source_bytes-next,
+      public_size (goal.at.store_key-requires c).After-source_bytes,
       pre.5,
     )
 
 pub write_public_key-requires : goal.write_public_key-requires
 write_public_key-requires c =
     let pre = c.requires in
-    let vectors = c.store_key-stored in
+    let vectors = c.store_key in
     record {
       byte_rules = (pre.0, pre.1, public_size (goal.at.write_public_key-requires c).After-source_bytes, vectors.auto.work ∙ pre.5, pre.3);
-      digit = stored_digits c.args.p pre.1 _ _ (vectors.ensures.result (ap outcome c.in-Done.is));
+      digit = stored_digits c.args.p pre.1 _ _ (c.in_ok-store_key.ensures.result refl);
     }
 
 pub copy_at-requires : goal.copy_at-requires
 copy_at-requires c =
     omega (arith, secret_size (goal.at.copy_at-requires c).After-source_bytes-next, c.requires.4)
 
-pub returns-in_default : goal.returns-in_default
-returns-in_default c =
-    let told = ap outcome c.in_default.is in
-    let decided = draws_decide c.args.p c.args.seed.now _ _ (first_is (goal.at.returns-in_default c).After-source_bytes)
-    (second_is (goal.at.returns-in_default c).After-source_bytes) c.store_key-stored.ensures.answer ∙ told in
+pub returns-in_err-store_key : goal.returns-in_err-store_key
+returns-in_err-store_key c =
+    let told = handed_on _ c.from_residual.result c.from_residual.ensures.1 in
+    let decided = draws_decide c.args.p c.args.seed.now _ _ (first_is (goal.at.returns-in_err-store_key c).After-source_bytes)
+    (second_is (goal.at.returns-in_err-store_key c).After-source_bytes) c.in_err-store_key.ensures.answer in
     record { answer = told ∙ sym decided; public = sym (leaves_refused _ _ decided); secret = sym (leaves_refused _ _ decided) }
 
 pub returns : goal.returns
 returns c =
-    let vectors = c.store_key-stored in
     let p = c.args.p in
     let seed = c.args.seed.now in
-    let accepted-key = ap outcome c.in-Done.is in
     let decided = draws_decide p seed _ _ (first_is (goal.at.returns c).After-source_bytes) (second_is (goal.at.returns c).After-source_bytes)
-    vectors.ensures.answer ∙ accepted-key in record {
+    c.in_ok-store_key.ensures.answer in record {
       answer = sym decided;
       public = c.write_public_key.ensures
           ∙ key_made p seed _ _ (first_is (goal.at.returns c).After-source_bytes) (second_is (goal.at.returns c).After-source_bytes) _
-          (vectors.ensures.result accepted-key)
+          (c.in_ok-store_key.ensures.result refl)
           ∙ sym (leaves_accepted _ _ decided);
       secret = c.copy_at.ensures
           ∙ over_whole _ _ (secret_size (goal.at.returns c).After-source_bytes-next ∙ sym c.requires.4)

@@ -1,29 +1,31 @@
 -- `share_a_key::share_a_key` meets its contract: the checks of all calls come first; once key is accepted, demand 3 says that the other two are.
 -- Assumes nothing.
-use mathlib.Core.Path.{◌≡◌, sym, ap, ◌∙◌}
-use Rattle.calls.specs.Outcome.{outcome, accepted}
+use mathlib.Core.Path.{◌≡◌, sym, ◌∙◌}
+use Rattle.calls.specs.Outcome.{accepted}
+use Rattle.calls.proofs.Outcome.{handed_on}
 use Rattle.sets.specs.Derived.{is_exchange}
 use Rattle.share_a_key.specs.Answers.{share_a_key_checked}
 use Rattle.share_a_key.proofs.ShareAKey.{all_fit, checks_refuse, key_refuses, all_accept}
-use Rattle.share_a_key.proofs.share_a_key.Goals.{In-Done}
+use Rattle.share_a_key.proofs.share_a_key.Goals.{In_ok-round_trip_checked}
 use Rattle.share_a_key.proofs.share_a_key.Goals as goal
 
-pub round_trip_checked-checked-requires : goal.round_trip_checked-checked-requires
-round_trip_checked-checked-requires c = c.parameters_of.ensures
+pub round_trip_checked-requires : goal.round_trip_checked-requires
+round_trip_checked-requires c = c.parameters_of.ensures
 
 -- the checks of all three calls passed
-passed : (c : In-Done) → let args = c.args in
+passed : (c : In_ok-round_trip_checked) → let args = c.args in
     all_fit args.set args.seed.now args.message.now args.public.now args.secret.now args.sealed.now
     args.sent.now args.received.now args.work.now ≡ accepted
 unfolding is_exchange share_a_key_checked
-passed c = sym c.round_trip_checked-checked.ensures ∙ ap outcome c.in-Done.is
+passed c = sym c.in_ok-round_trip_checked.ensures
 
-pub returns-in_default : goal.returns-in_default
+pub returns-in_err-round_trip_checked : goal.returns-in_err-round_trip_checked
 unfolding is_exchange share_a_key_checked
-returns-in_default c =
-    let args = c.args in let whole = checks_refuse args.set args.seed.now args.message.now args.public.now args.secret.now args.sealed.now
+returns-in_err-round_trip_checked c =
+    let args = c.args in
+    let told = handed_on _ c.from_residual.result c.from_residual.ensures.1 in let whole = checks_refuse args.set args.seed.now args.message.now args.public.now args.secret.now args.sealed.now
     args.sent.now args.received.now args.work.now
-    c.round_trip_checked-checked.ensures (ap outcome c.in_default.is) in
+    (told ∙ c.in_err-round_trip_checked.ensures) told in
     record {
       answer = whole.0;
       given = whole.1.0;
@@ -36,13 +38,14 @@ returns-in_default c =
     }
 
 -- a draw of the key is refused
-pub returns-in_default-made : goal.returns-in_default-made
-returns-in_default-made c =
-    let args = c.args in let whole = key_refuses args.set args.seed.now args.message.now args.public.now args.secret.now args.sealed.now
+pub returns-in_err-key : goal.returns-in_err-key
+returns-in_err-key c =
+    let args = c.args in
+    let told = handed_on _ c.from_residual-in_err-key.result c.from_residual-in_err-key.ensures.1 in let whole = key_refuses args.set args.seed.now args.message.now args.public.now args.secret.now args.sealed.now
     args.sent.now args.received.now args.work.now
-    (passed (goal.at.returns-in_default-made c).In-Done) (ap outcome c.in_default-made.is) (
-      c.key-made.ensures.answer,
-      (c.key-made.ensures.given, (c.key-made.ensures.kept, c.key-made.ensures.cleared)),
+    (passed (goal.at.returns-in_err-key c).In_ok-round_trip_checked) told (
+      told ∙ c.in_err-key.ensures.answer,
+      (c.in_err-key.ensures.given, (c.in_err-key.ensures.kept, c.in_err-key.ensures.cleared)),
     ) in record {
       answer = whole.0;
       given = whole.1.0;
@@ -60,9 +63,9 @@ returns c =
     let args = c.args in
     let bytes = c.shared_slice_known-2-1.given in let whole = all_accept args.set args.seed.now args.message.now args.public.now args.secret.now args.sealed.now
     args.sent.now args.received.now args.work.now
-    (passed (goal.at.returns c).In-Done) _ _ _ (
-      sym (ap outcome c.in-Done-made.is) ∙ c.key-made.ensures.answer,
-      (c.key-made.ensures.given, (c.key-made.ensures.kept, c.key-made.ensures.cleared)),
+    (passed (goal.at.returns c).In_ok-round_trip_checked) _ _ _ (
+      c.in_ok-key.ensures.answer,
+      (c.in_ok-key.ensures.given, (c.in_ok-key.ensures.kept, c.in_ok-key.ensures.cleared)),
     ) (λ k. (bytes k).fits)
     _ _ _ (c.encapsulate.ensures.given, (c.encapsulate.ensures.agreed, c.encapsulate.ensures.cleared))
     (c.decapsulate.ensures.answer, (c.decapsulate.ensures.agreed, c.decapsulate.ensures.cleared)) in

@@ -17,7 +17,7 @@ use Rattle.sets.proofs.Rules.{listed_rules}
 use Rattle.calls.proofs.Parts.{front_length, back_length}
 use Rattle.sheet_noise.proofs.Held.{work_room, secret_state_lem, never_refused, errors_written}
 use borrow.Author.Rules.{rules}
-use Rattle.sheet_noise.proofs.draw_errors.Goals.{After-error_count-count, After-residues_from, In-Counter}
+use Rattle.sheet_noise.proofs.draw_errors.Goals.{After-error_count-count, After-residues_from, In-Ok}
 use Rattle.sheet_noise.proofs.draw_errors.Goals as goal
 
 -- the set's numbers and their rules
@@ -77,11 +77,11 @@ returns-in_default c =
     c.requires.0.some_bytpcs _ answer c.requires.3)
 
 -- the state that the draw of the secret leaves
-state_is : (c : In-Counter) → state_at c.args.secret.now c.in-Counter.counter ≡ secret_state c.args.p c.args.secret.now
+state_is : (c : In-Ok) → state_at c.args.secret.now c.in-Ok.counter ≡ secret_state c.args.p c.args.secret.now
 state_is c =
     let secret = c.args.secret.now in
-    secret_state_lem c.args.p secret _ (secret_part (goal.at.In-Counter c).After-error_count-count) _
-    (sym (ap (onward secret) c.in-Counter.is) ∙ c.residues_from.ensures.answer)
+    secret_state_lem c.args.p secret _ (secret_part (goal.at.In-Ok c).After-error_count-count) _
+    (sym (ap (onward secret) c.in-Ok.is) ∙ c.residues_from.ensures.answer)
 
 -- the work slice keeps its length
 kept_length : (c : After-residues_from) → length (work_after c) ≡ length (work (goal.at.After-residues_from c).After-error_count-count)
@@ -109,7 +109,7 @@ pub errors_from-requires : goal.errors_from-requires
 errors_from-requires c =
     let small = secret_state_small (p (goal.at.errors_from-requires c).After-error_count-count) (kept (goal.at.errors_from-requires c).After-error_count-count)
     c.requires.0 c.args.secret.now in
-    let counter = ap (λ (s : State). s.counter) (state_is (goal.at.errors_from-requires c).In-Counter) in
+    let counter = ap (λ (s : State). s.counter) (state_is (goal.at.errors_from-requires c).In-Ok) in
     record {
       rules = (
         kept (goal.at.errors_from-requires c).After-error_count-count,
@@ -133,4 +133,4 @@ returns c =
     let secret = c.args.secret.now in
     errors_written o secret (work_after (goal.at.returns c).After-residues_from) made.new.out c.error_count-count.result
     (made.auto.out ∙ errors_size (goal.at.returns c).After-residues_from ∙ c.error_count-count.ensures.0)
-    (made.ensures ∙ ap (λ (s : State). map (residue o.q) (errors_drawn o s)) (state_is (goal.at.returns c).In-Counter))
+    (made.ensures ∙ ap (λ (s : State). map (residue o.q) (errors_drawn o s)) (state_is (goal.at.returns c).In-Ok))

@@ -7,8 +7,7 @@ use mathlib.Core.List.{List}
 use Prim.Native.Nat.{ℕ}
 use borrow.Author.Rules.{rules}
 use lib.ListN.{drop}
-use Rattle.calls.specs.Outcome.{outcome}
-use Rattle.calls.proofs.Outcome.{refused_call}
+use Rattle.calls.proofs.Outcome.{refused_call, handed_on}
 use Rattle.calls.proofs.Parts.{rest_whole}
 use Rattle.scheme.specs.Encryption.{key_numbers}
 use Rattle.scheme.specs.Answers.{only_residues}
@@ -35,16 +34,16 @@ returns-then-not-key_below c =
     let whole = refused_call _ _ (numbers_refuse args.p args.secret.now (told (goal.at.returns-then-not-key_below c).After-key_below
     ∙ c.if-not-key_below.true)) in record { answer = whole.0; agreed = whole.1 }
 
-pub decrypt-answer-requires : goal.decrypt-answer-requires
-decrypt-answer-requires c =
+pub decrypt-requires : goal.decrypt-requires
+decrypt-requires c =
     (c.requires.0, c.requires.1, search rules, search rules, search rules, search rules, search rules)
 
-pub returns-in_default : goal.returns-in_default
-returns-in_default c =
+pub returns-in_err-decrypt : goal.returns-in_err-decrypt
+returns-in_err-decrypt c =
     let args = c.args in
-    let refusal = ap outcome c.in_default.is in
-    let left = refused_call _ _ (draw_refuses args.p args.secret.now (passed (goal.at.returns-in_default c).Else-not-key_below)
-    (sym c.decrypt-answer.ensures.answer ∙ refusal)) in record { answer = refusal ∙ left.0; agreed = left.1 }
+    let refusal = handed_on _ c.from_residual.result c.from_residual.ensures.1 in
+    let left = refused_call _ _ (draw_refuses args.p args.secret.now (passed (goal.at.returns-in_err-decrypt c).Else-not-key_below)
+    (sym c.in_err-decrypt.ensures.answer)) in record { answer = refusal ∙ left.0; agreed = left.1 }
 
 pub key_of_message-requires : goal.key_of_message-requires
 key_of_message-requires c =
@@ -53,8 +52,8 @@ key_of_message-requires c =
 pub returns : goal.returns
 returns c =
     let args = c.args in
-    let message = c.decrypt-answer.ensures in
+    let message = c.in_ok-decrypt.ensures in
     let key = c.key_of_message.ensures in
     let whole = decapsulated_made args.p args.secret.now (passed (goal.at.returns c).Else-not-key_below) args.ciphertext.now _ args.message.now _ _
     args.shared.now _
-    (sym message.answer ∙ ap outcome c.in-Done.is) message.read message.halves key.answer key.agreed in record { answer = whole.0; agreed = whole.1 }
+    (sym message.answer) message.read message.halves key.answer key.agreed in record { answer = whole.0; agreed = whole.1 }

@@ -5,35 +5,35 @@ use Prim.Native.Nat.{◌+◌, ◌-◌}
 use native.Mathlib.Omega.{arith}
 use borrow.Author.Rules.{rules}
 use lib.ListN.{length}
-use Rattle.calls.specs.Outcome.{outcome}
+use Rattle.calls.proofs.Outcome.{handed_on}
 use Rattle.calls.proofs.Parts.{front_length, front_refused}
 use Rattle.cca_steps.proofs.Steps.{ciphertext_made}
-use Rattle.cca_steps.proofs.encapsulation.encapsulate_digest.Goals.{After-encrypt-answer}
+use Rattle.cca_steps.proofs.encapsulation.encapsulate_digest.Goals.{After-encrypt}
 use Rattle.cca_steps.proofs.encapsulation.encapsulate_digest.Goals as goal
 
-pub encrypt-answer-requires : goal.encrypt-answer-requires
-encrypt-answer-requires c =
+pub encrypt-requires : goal.encrypt-requires
+encrypt-requires c =
     (c.requires.0, c.requires.1, search rules, search rules, search rules, search rules, search rules)
 
-pub returns-in_default : goal.returns-in_default
-returns-in_default c =
+pub returns-in_err-encrypt : goal.returns-in_err-encrypt
+returns-in_err-encrypt c =
     let old = c.args.ciphertext.now in
-    let told = ap outcome c.in_default.is in
-    let left = front_refused old _ _ _ (length old - 32) (sym c.encrypt-answer.ensures.answer ∙ told) c.encrypt-answer.ensures.sealed in
+    let told = handed_on _ c.from_residual.result c.from_residual.ensures.1 in
+    let left = front_refused old _ _ _ (length old - 32) (sym c.in_err-encrypt.ensures.answer) c.in_err-encrypt.ensures.sealed in
     record { answer = told ∙ left.0; given = left.1 }
 
 -- what encrypt wrote has the length of the part lent
-front_size : (c : After-encrypt-answer) → length c.encrypt-answer.new.ciphertext ≡ length c.args.ciphertext.now - 32
+front_size : (c : After-encrypt) → length c.encrypt.new.ciphertext ≡ length c.args.ciphertext.now - 32
 front_size c =
     let old = c.args.ciphertext.now in
-    c.encrypt-answer.auto.ciphertext ∙ front_length old (length old - 32) (omega arith)
+    c.encrypt.auto.ciphertext ∙ front_length old (length old - 32) (omega arith)
 
 pub returns : goal.returns
 returns c =
     let args = c.args in
-    let decided = sym c.encrypt-answer.ensures.answer ∙ ap outcome c.in-Done.is in
+    let decided = sym c.in_ok-encrypt.ensures.answer in
     let old = args.ciphertext.now in
     let size : length old ≡ length old - 32 + 32 = omega (arith, c.requires.6) in
     let whole = ciphertext_made args.p args.public.now args.message.now args.digest.now old _ _ (length old - 32) decided
-    c.requires.5 c.requires.4 size (front_size (goal.at.returns c).After-encrypt-answer) c.encrypt-answer.ensures.sealed c.copy_at.ensures in
-    record { answer = ap outcome c.in-Done.is ∙ sym decided; given = whole }
+    c.requires.5 c.requires.4 size (front_size (goal.at.returns c).After-encrypt) c.in_ok-encrypt.ensures.sealed c.copy_at.ensures in
+    record { answer = sym decided; given = whole }

@@ -2,8 +2,7 @@
 -- Assumes nothing.
 use mathlib.Core.Path.{◌≡◌, sym, ap, ◌∙◌}
 use lib.ListN.{take}
-use Rattle.calls.specs.Outcome.{outcome}
-use Rattle.calls.proofs.Outcome.{leaves_refused}
+use Rattle.calls.proofs.Outcome.{leaves_refused, handed_on}
 use Rattle.scheme.specs.Exchange.{inner_seed}
 use Rattle.scheme.specs.Answers.{key_draws}
 use Rattle.cca_steps.proofs.Steps.{inner_made, public_made, secret_made}
@@ -14,20 +13,20 @@ use Rattle.cca_steps.proofs.keygen.keygen_with_buffers.Goals as goal
 inner : (c : After-source_bytes) → take 32 c.source_bytes.new.out ≡ inner_seed c.args.p c.args.seed.now
 inner c = inner_made c.args.p c.args.seed.now _ _ c.requires.6 c.source_bytes.ensures.bytes
 
-pub returns-in_default : goal.returns-in_default
-returns-in_default c =
+pub returns-in_err-keygen : goal.returns-in_err-keygen
+returns-in_err-keygen c =
     let p = c.args.p in
-    let seed = inner (goal.at.returns-in_default c).After-source_bytes in
-    let decided = sym (c.keygen-answer.ensures.answer ∙ ap (key_draws p) seed) ∙ ap outcome c.in_default.is in
-    let public = public_made p c.args.seed.now _ _ c.args.public.now seed c.keygen-answer.ensures.public in
-    record { answer = ap outcome c.in_default.is ∙ sym decided; given = public; kept = sym (leaves_refused _ _ decided) }
+    let seed = inner (goal.at.returns-in_err-keygen c).After-source_bytes in
+    let decided = sym (c.in_err-keygen.ensures.answer ∙ ap (key_draws p) seed) in
+    let public = public_made p c.args.seed.now _ _ c.args.public.now seed c.keygen.ensures.public in
+    record { answer = handed_on _ c.from_residual.result c.from_residual.ensures.1 ∙ sym decided; given = public; kept = sym (leaves_refused _ _ decided) }
 
 pub returns : goal.returns
 returns c =
     let p = c.args.p in
     let seed = inner (goal.at.returns c).After-source_bytes in
-    let decided = sym (c.keygen-answer.ensures.answer ∙ ap (key_draws p) seed) ∙ ap outcome c.in-Done.is in
-    let public = public_made p c.args.seed.now _ _ c.args.public.now seed c.keygen-answer.ensures.public in
+    let decided = sym (c.in_ok-keygen.ensures.answer ∙ ap (key_draws p) seed) in
+    let public = public_made p c.args.seed.now _ _ c.args.public.now seed c.keygen.ensures.public in
     let written = c.write_both.ensures in
     let secret = secret_made p c.args.seed.now _ c.args.public.now _ c.args.secret.now decided public written in
-    record { answer = ap outcome c.in-Done.is ∙ sym decided; given = public; kept = secret }
+    record { answer = sym decided; given = public; kept = secret }

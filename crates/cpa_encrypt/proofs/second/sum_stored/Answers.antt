@@ -21,7 +21,7 @@ loop-i-init c = correlating_none c.args.p c.requires.0 _ _ _ _ c.requires.4 c.re
 
 -- a turn is one of t
 turn_below : (c : In-loop-i) → c.loop-i.i < c.args.p.t
-turn_below c = omega (arith, c.loop-i-test.true)
+turn_below c = omega arith
 
 -- its b̂_i lies within all of them
 turn_room : (c : In-loop-i) → let p = c.args.p in KeyRoom p c.loop-i.i (p.d1 * p.t)
@@ -73,13 +73,6 @@ accumulate-requires c =
     c.requires.1 c.loop-i.invariant (turn_below (goal.at.accumulate-requires c).In-loop-i) c.send_multipliers.ensures
     (turn_part (goal.at.accumulate-requires c).In-loop-i)
 
-pub overflow_add-i : goal.overflow_add-i
-overflow_add-i c =
-    omega (arith, c.loop-i-test.true, (listed_rules c.args.p c.requires.0).most_t)
-
-pub loop-i-smaller : goal.loop-i-smaller
-loop-i-smaller c = omega (arith, c.loop-i-test.true)
-
 pub loop-i-preserved : goal.loop-i-preserved
 loop-i-preserved c =
     correlating_more c.args.p c.requires.0 c.args.numbers.now c.args.multipliers.now _ _ _ c.loop-i.invariant
@@ -87,4 +80,4 @@ loop-i-preserved c =
 
 pub returns : goal.returns
 returns c =
-    correlating_all c.args.p c.requires.0 c.args.numbers.now c.args.multipliers.now c.loop-i.invariant (omega (arith, c.loop-i-test.false))
+    correlating_all c.args.p c.requires.0 c.args.numbers.now c.args.multipliers.now c.loop-i.invariant (omega arith)

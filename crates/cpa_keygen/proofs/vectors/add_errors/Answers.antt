@@ -16,16 +16,16 @@ loop-j-init c = filled_none (sums_length _ _ _) (omega arith)
 pub add-requires : goal.add-requires
 add-requires c =
     let turn = c.loop-j in
-    let below : turn.j < length c.args.errors.now = c.loop-j-test.true in
+    let below : turn.j < length c.args.errors.now = omega arith in
     let residue : at c.args.x.now turn.j < c.args.q = c.requires.1.each turn.j below in
     (rw (ahead turn.invariant) residue, c.requires.2.each turn.j below, c.requires.3)
 
 pub loop-j-preserved : goal.loop-j-preserved
 loop-j-preserved c =
     let turn = c.loop-j in
-    let below : turn.j < length c.args.errors.now = c.loop-j-test.true in
+    let below : turn.j < length c.args.errors.now = omega arith in
     filled_more 0 turn.invariant below (sym (zero-add turn.j))
     (c.add.ensures ∙ rw (ahead turn.invariant) (sym (sums_at c.args.q c.args.x.now c.args.errors.now turn.j below)))
 
 pub returns : goal.returns
-returns c = filled_all c.loop-j.invariant c.loop-j-test.false
+returns c = filled_all c.loop-j.invariant (omega arith)

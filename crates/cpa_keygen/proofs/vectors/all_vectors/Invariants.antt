@@ -1,7 +1,6 @@
 -- After i turns the first i vectors are stored; the first draw that is refused ends the loop.
 -- Assumes nothing.
 use mathlib.Core.Path.{◌≡◌}
-use Prim.Native.Nat.{◌-◌}
 use lib.ListN.{length}
 use Rattle.cpa_keygen.proofs.KeyVectors.{Vectors}
 use Rattle.cpa_keygen.proofs.vectors.all_vectors.Given as goal
@@ -9,6 +8,3 @@ use Rattle.cpa_keygen.proofs.vectors.all_vectors.Given as goal
 abbrev pub invariant-loop-i : goal.invariant-loop-i
 invariant-loop-i l =
     (length l.x ≡ length l.initial.x) × (length l.work ≡ length l.initial.work) × Vectors l.p l.seed l.initial.work l.i l.counter l.work
-
-abbrev pub decreases-loop-i : goal.decreases-loop-i
-decreases-loop-i l = l.t - l.i

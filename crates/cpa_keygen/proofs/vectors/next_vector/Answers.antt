@@ -2,6 +2,7 @@
 -- Assumes nothing.
 use mathlib.Core.Path.{sym, ap, ◌∙◌}
 use Prim.Native.Nat.{◌+◌, ◌*◌}
+use Rattle.std.proofs.lemmas.Result.{err_from_is_err_and}
 use Rattle.calls.specs.Region.{over}
 use Rattle.samplers.specs.Blocks.{onward}
 use Rattle.samplers.specs.Seeded.{public_drawn}
@@ -10,22 +11,23 @@ use Rattle.cpa_keygen.proofs.Drawn.{true_false, advanced, stopped, public_never_
 use Rattle.cpa_keygen.proofs.KeyVectors.{polynomial_placed, vector_below, stored_is}
 use Rattle.cpa_keygen.proofs.vectors.next_vector.Goals as goal
 
-pub returns-in_default : goal.returns-in_default
-returns-in_default c =
+pub returns-in_err-next : goal.returns-in_err-next
+returns-in_err-next c =
     let p = c.args.p in
     let seed = c.args.seed.now in
     let none =
     stopped _ _ (public_drawn p seed c.args.i) (λ xs run. public_never_ends p c.requires.0 seed xs run c.args.i)
-    (sym (ap (onward seed) c.in_default.is) ∙ c.draw_polynomial-drawn.ensures.answer) in
-    record { answer = c.draw_polynomial-drawn.ensures.answer; result = λ t. absurd (true_false t none.not_taken) }
+    c.in_err-next.ensures.answer in
+    let same = err_from_is_err_and c.from_residual.result c.from_residual.ensures.1 in
+    record { answer = rw (same.1, same.2) c.in_err-next.ensures.answer; result = λ t. absurd (true_false t none.not_taken) }
 
 pub key_vector-requires : goal.key_vector-requires
 key_vector-requires c =
     let pre = c.requires in
     let p = c.args.p in
     let seed = c.args.seed.now in
-    let polynomial = c.draw_polynomial-drawn in
-    let drawn = advanced _ _ (public_drawn p seed c.args.i) (sym (ap (onward seed) c.in-Counter.is) ∙ polynomial.ensures.answer) in
+    let polynomial = c.draw_polynomial in
+    let drawn = advanced _ _ (public_drawn p seed c.args.i) c.in_ok-next.ensures.answer in
     let placed =
     polynomial_placed p pre.1 seed polynomial.new.x c.args.i (polynomial.auto.x ∙ pre.7)
     (polynomial.ensures.result drawn.all_taken_lem) in
@@ -35,7 +37,7 @@ pub store_vector-requires : goal.store_vector-requires
 store_vector-requires c =
     let pre = c.requires in
     let vector = c.key_vector in
-    let size = vector.auto.x ∙ c.draw_polynomial-drawn.auto.x ∙ pre.7 in
+    let size = vector.auto.x ∙ c.draw_polynomial.auto.x ∙ pre.7 in
     let below = vector_below c.args.p pre.1 vector.new.x _ c.args.work.now c.args.i vector.ensures in
     (pre.0, pre.1, pre.3, pre.6, size, below, pre.8.size)
 
@@ -43,8 +45,8 @@ pub returns : goal.returns
 returns c =
     let p = c.args.p in
     let work = c.args.work.now in
-    let polynomial = c.draw_polynomial-drawn in record {
-      answer = polynomial.ensures.answer;
+    let polynomial = c.draw_polynomial in record {
+      answer = c.in_ok-next.ensures.answer;
       result = λ t.
           c.store_vector.ensures
           ∙ ap (over work (vectors_start_of p + p.d1 * c.args.i))
