@@ -22,11 +22,9 @@ fn fill_row_twist(tables: &mut [u32], start: usize, rows: usize, by: u32, q: u32
     requires { Scaling q k by × (start ≡ rows * 256) × (0 < rows) × (rows ≤ 16) × (start + 256 ≤ length tables.old) × AllBelow q start tables.old }
     ensures { Filled q start 256 (λ i. rows * (i / 16 * (i % 16))) tables.old tables.new }
 {
-    let mut i: usize = 0;
-    while i < 256 {
+    for i in 0..256 {
         let power = tables[rows * (i / 16 * (i % 16))];
         tables[start + i] = scaled(power, by, q, k);
-        i += 1;
     }
 }
 
@@ -35,11 +33,9 @@ fn fill_strided(tables: &mut [u32], start: usize, n: usize, stride: usize, by: u
     requires { Scaling q k by × (0 < stride) × (stride * n ≤ start) × (start + n ≤ length tables.old) × (start ≤ 8192) × AllBelow q start tables.old }
     ensures { Filled q start n (λ i. stride * i) tables.old tables.new }
 {
-    let mut i: usize = 0;
-    while i < n {
+    for i in 0..n {
         let power = tables[stride * i];
         tables[start + i] = scaled(power, by, q, k);
-        i += 1;
     }
 }
 
@@ -49,10 +45,8 @@ fn twist_row(tables: &mut [u32], r: usize)
     ensures { TwistedRow r tables.old tables.new }
 {
     let start = r * 256;
-    let mut c: usize = 0;
-    while c < 256 {
+    for c in 0..256 {
         tables[start + c] = tables[r * c];
-        c += 1;
     }
 }
 
@@ -61,9 +55,7 @@ fn twist_rows(tables: &mut [u32], rows: usize)
     requires { (rows ≤ 16) × (rows * 256 ≤ length tables.old) }
     ensures { Twisted rows tables.old tables.new }
 {
-    let mut r = rows;
-    while r > 0 {
-        r -= 1;
+    for r in (0..rows).rev() {
         twist_row(tables, r);
     }
 }
@@ -87,13 +79,7 @@ pub fn fill_tables(tables: &mut [u32], rows: usize, q: u32)
 pub fn invert_powers(powers: &mut [u32])
     ensures { InvertedTable powers.old powers.new }
 {
-    let size = powers.len();
-    let mut i: usize = 1;
-    while i + i < size {
-        let a = powers[i];
-        let b = powers[size - i];
-        powers[i] = b;
-        powers[size - i] = a;
-        i += 1;
+    if let [_, later @ ..] = powers {
+        later.reverse();
     }
 }

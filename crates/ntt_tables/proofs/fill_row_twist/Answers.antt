@@ -1,7 +1,7 @@
 -- `ntt_tables::fill_row_twist` meets its contract: after i turns the first i powers are written.
 -- Assumes nothing.
 use mathlib.Core.Path.{◌≡◌, refl, ◌∙◌}
-use Prim.Native.Nat.{◌*◌, ◌/◌, ◌%◌, ◌-◌, ◌<◌}
+use Prim.Native.Nat.{◌*◌, ◌/◌, ◌%◌, ◌<◌}
 use native.Mathlib.Omega.{arith}
 use Rattle.ntt_tables.proofs.Fill.{filled_none, filled_more, exponent_below, twist_place}
 use Rattle.ntt_tables.proofs.fill_row_twist.Goals.{In-loop-i}

@@ -1,7 +1,7 @@
 -- `ntt_tables::fill_strided` meets its contract: after i turns the first i powers are written.
 -- Assumes nothing.
 use mathlib.Core.Path.{◌≡◌, refl, ◌∙◌}
-use Prim.Native.Nat.{◌*◌, ◌-◌, ◌<◌}
+use Prim.Native.Nat.{◌*◌, ◌<◌}
 use native.Mathlib.Omega.{arith}
 use Rattle.ntt_tables.proofs.Fill.{filled_none, filled_more, strided_place}
 use Rattle.ntt_tables.proofs.fill_strided.Goals.{In-loop-i}
