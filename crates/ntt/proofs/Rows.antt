@@ -8,7 +8,7 @@ use native.Mathlib.Nat.{eq-or-lt_of_le, le_of_suc-le-suc}
 use native.Mathlib.Numerals.{add-one}
 use native.Mathlib.Omega.{arith}
 use lib.ListN.{length}
-use Rattle.maths.specs.Vector.{at, AllBelow}
+use Rattle.maths.specs.Vector.{AllBelow}
 use Rattle.maths.proofs.Vector.{equal_by_place}
 use Rattle.calls.specs.Region.{region, over}
 use Rattle.calls.proofs.Region.{region_length, region_entry, region_over_same, over_outside, over_length}

@@ -36,10 +36,8 @@ fn forward_rows(x: &mut [u32], tables: &[u32], by: u32, rows: usize, q: u32, k: 
     requires { RowsReady q k rows tables.now x.old × (by < q) }
     ensures { ForwardRows q by rows tables.now x.old x.new }
 {
-    let mut r: usize = 0;
-    while r < rows {
+    for r in 0..rows {
         forward_row_at(x, tables, by, r, rows, q, k);
-        r += 1;
     }
 }
 
@@ -66,10 +64,8 @@ pub fn inverse_rows(x: &mut [u32], tables: &[u32], rows: usize, q: u32, k: u32)
     requires { RowsReady q k rows tables.now x.old × AllBelow (2 * q) (rows * 256) x.old }
     ensures { InverseRows q rows tables.now x.old x.new }
 {
-    let mut r: usize = 0;
-    while r < rows {
+    for r in 0..rows {
         inverse_row_at(x, tables, r, rows, q, k);
-        r += 1;
     }
 }
 
@@ -107,10 +103,8 @@ fn column_total(x: &[u32], c: usize, rows: usize) -> u32
     ensures { result ≡ sum rows (λ n. at x.now (n * 256 + c)) }
 {
     let mut total: u32 = 0;
-    let mut n: usize = 0;
-    while n < rows {
+    for n in 0..rows {
         total += x[n * 256 + c];
-        n += 1;
     }
     total
 }

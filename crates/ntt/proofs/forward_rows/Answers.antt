@@ -1,6 +1,5 @@
 -- `ntt::forward_rows` meets its contract: after r turns the first r rows are done, and the others are as they were.
 -- Assumes nothing.
-use Prim.Native.Nat.{◌-◌}
 use native.Mathlib.Omega.{arith}
 use Rattle.ntt.proofs.Rows.{rows_none, rows_more, rows_ready}
 use Rattle.ntt.proofs.forward_rows.Goals as goal

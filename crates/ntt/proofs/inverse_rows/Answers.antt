@@ -1,6 +1,5 @@
 -- `ntt::inverse_rows` meets its contract: after r turns the first r rows are done, and the others are as they were.
 -- Assumes nothing.
-use Prim.Native.Nat.{◌-◌}
 use native.Mathlib.Omega.{arith}
 use Rattle.ntt.proofs.Rows.{rows_none, rows_more, rows_ready, row_below}
 use Rattle.ntt.proofs.inverse_rows.Goals as goal
