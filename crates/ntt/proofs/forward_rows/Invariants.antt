@@ -1,8 +1,0 @@
--- `ntt::forward_rows` meets its contract: after r turns the first r rows are done, and the others are as they were.
--- Assumes nothing.
-use Rattle.ntt.specs.Rows.{ForwardAt}
-use Rattle.ntt.proofs.Rows.{RowsDone}
-use Rattle.ntt.proofs.forward_rows.Given as goal
-
-abbrev pub invariant-loop-r : goal.invariant-loop-r
-invariant-loop-r l = RowsDone (ForwardAt l.q l.by l.rows l.tables) l.rows l.initial.x l.r l.x
