@@ -1,6 +1,6 @@
 -- Laws of the smallest reduction step: it gives a number below 2 · q that is congruent to x divided by 2^32, for every odd q, and q or more for some x.
 -- Assumes nothing.
-use mathlib.Core.Path.{◌≡◌, refl, ap, ◌∙◌}
+use mathlib.Core.Path.{◌≡◌, refl, ap}
 use Prim.Native.Nat.{ℕ, ◌+◌, ◌-◌, ◌*◌, ◌/◌, ◌%◌, ◌^◌, ◌<◌}
 use native.Mathlib.Nat.{div-add-mod', mod-eq_of_lt}
 use native.Mathlib.Omega.{arith}

@@ -8,12 +8,14 @@ use native.Mathlib.Nat.{eq-or-lt_of_le, le_of_suc-le-suc}
 use native.Mathlib.Numerals.{add-one}
 use native.Mathlib.Omega.{arith}
 use lib.ListN.{length}
-use Rattle.maths.specs.Vector.{at, AllBelow}
+use Rattle.maths.specs.Vector.{AllBelow}
 use Rattle.maths.proofs.Vector.{equal_by_place}
 use Rattle.calls.specs.Region.{region, over}
 use Rattle.calls.proofs.Region.{region_length, region_entry, region_over_same, over_outside, over_length}
 use Rattle.ntt_rows.specs.Rows.{ForwardReady, InverseReady}
-use Rattle.ntt.specs.Rows.{RowsReady, RowReplaced}
+use Rattle.ntt.specs.Rows.{RowsReady, RowReplaced, RowGiven, RowAt, RowsGiven, RowsTurned}
+use Rattle.ntt.specs.declared.Direction.{Direction}
+use Rattle.ntt.specs.declared.Direction.TheVariants.{Forward, Inverse}
 use Rattle.ntt.proofs.Places.{same_row, row_end}
 
 -- a part of numbers below q
@@ -97,7 +99,16 @@ module _ {P : ℕ → List ℕ → List ℕ → Type 0} {δ : ℕ} {old : List �
 pub rows_ready : {q k δ : ℕ} {tables old new : List ℕ} → RowsReady q k δ tables old → length new ≡ length old → RowsReady q k δ tables new
 rows_ready ready kept = record { modulus = ready.modulus; ready = ready.ready; size = kept ∙ ready.size }
 
--- the next row is as it was
-pub row_below : {q k δ r : ℕ} {P : ℕ → List ℕ → List ℕ → Type 0} {tables old new : List ℕ} → RowsReady q k δ tables old → AllBelow (2 * q) (δ * 256) old
-    → RowsDone P δ old r new → r < δ → AllBelow (2 * q) 256 (region new (r * 256) 256)
-row_below {r = r} ready below s h = rw (s.rest r (omega arith) h) (part_below (r * 256) 256 below (row_end 256 h))
+-- the next row is as it was, so that it has what it asks
+pub row_given : {q k δ r : ℕ} {tables old new : List ℕ} (direction : Direction) → RowsReady q k δ tables old → RowsGiven q δ direction old
+    → RowsDone (RowAt q direction δ tables) δ old r new → r < δ
+    → RowGiven q k direction (region tables (r * 256) 256) (region tables (δ * 256) 264) (region new (r * 256) 256)
+row_given (Forward by) ready given s h = forward_ready (rows_ready ready s.kept) h given
+row_given {r = r} Inverse ready given s h =
+    inverse_ready (rows_ready ready s.kept) h (rw (s.rest r (omega arith) h) (part_below (r * 256) 256 given (row_end 256 h)))
+
+-- after the last row
+pub rows_turned : {δ r : ℕ} {old new : List ℕ} (q : ℕ) (direction : Direction) (tables : List ℕ) → RowsDone (RowAt q direction δ tables) δ old r new → δ ≤ r
+    → RowsTurned q direction δ tables old new
+rows_turned q (Forward by) tables s h = record { size = s.kept; rows = λ i l. s.done i (omega arith) }
+rows_turned q Inverse tables s h = record { size = s.kept; rows = λ i l. s.done i (omega arith) }

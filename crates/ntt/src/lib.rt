@@ -10,55 +10,62 @@ ghost use Rattle.maths.specs.Transform.{send, recover};
 ghost use Rattle.calls.specs.Region.{region};
 ghost use Rattle.montgomery.specs.Scaled.{Modulus};
 ghost use Rattle.ntt_tables.specs.Tables.{Ready, Tables};
-ghost use Rattle.ntt.specs.Rows.{RowsReady, RowReplaced, ForwardAt, InverseAt, ForwardRows, InverseRows, first_row_at};
+ghost use Rattle.ntt.specs.Rows.{RowsReady, RowReplaced, RowGiven, RowTurned, RowAt, RowsGiven, RowsTurned, InverseRows, first_row_at};
 
-// Twists and transforms row `r`, in place, to residues, each times the number that `by` is the scaled form of.
-fn forward_row_at(x: &mut [u32], tables: &[u32], by: u32, r: usize, rows: usize, q: u32, k: u32)
-    requires { RowsReady q k rows tables.now x.old × (by < q) × (r < rows) }
-    ensures { RowReplaced (ForwardAt q by rows tables.now r) r x.old x.new }
-{
-    let start = r * 256;
-    let end = start + 256;
-    let row = rows * 256;
-    let row_end = row + 264;
-    ntt_rows::forward_row(
-        &mut x[start..end],
-        &tables[start..end],
-        &tables[row..row_end],
-        by,
-        q,
-        k,
-    );
+// Which transform a row is part of: a forward one, with the scaled form of the factor at its end, or an inverse one.
+#[derive(Clone, Copy)]
+enum Direction {
+    Forward(u32),
+    Inverse,
 }
 
-// Twists and transforms each row.
-fn forward_rows(x: &mut [u32], tables: &[u32], by: u32, rows: usize, q: u32, k: u32)
-    requires { RowsReady q k rows tables.now x.old × (by < q) }
-    ensures { ForwardRows q by rows tables.now x.old x.new }
+// Transforms a row, in place, with the powers of its twist and those of the row.
+fn turn_row(x: &mut [u32], twist: &[u32], powers: &[u32], direction: Direction, q: u32, k: u32)
+    requires { RowGiven q k direction twist.now powers.now x.old }
+    ensures { RowTurned q direction twist.now powers.now x.old x.new }
 {
-    let mut r: usize = 0;
-    while r < rows {
-        forward_row_at(x, tables, by, r, rows, q, k);
-        r += 1;
+    match direction {
+        Direction::Forward(by) => ntt_rows::forward_row(x, twist, powers, by, q, k),
+        Direction::Inverse => ntt_rows::inverse_row(x, twist, powers, q, k),
     }
 }
 
-// Transforms and twists row `r`, in place.
-fn inverse_row_at(x: &mut [u32], tables: &[u32], r: usize, rows: usize, q: u32, k: u32)
-    requires { RowsReady q k rows tables.now x.old × (r < rows) × AllBelow (2 * q) 256 (region x.old (r * 256) 256) }
-    ensures { RowReplaced (InverseAt q rows tables.now r) r x.old x.new }
+// Transforms row `r`, in place.
+fn turn_row_at(
+    x: &mut [u32],
+    tables: &[u32],
+    direction: Direction,
+    r: usize,
+    rows: usize,
+    q: u32,
+    k: u32,
+)
+    requires { RowsReady q k rows tables.now x.old × (r < rows)
+        × RowGiven q k direction (region tables.now (r * 256) 256) (region tables.now (rows * 256) 264) (region x.old (r * 256) 256) }
+    ensures { RowReplaced (RowAt q direction rows tables.now r) r x.old x.new }
 {
     let start = r * 256;
     let end = start + 256;
     let row = rows * 256;
     let row_end = row + 264;
-    ntt_rows::inverse_row(
+    turn_row(
         &mut x[start..end],
         &tables[start..end],
         &tables[row..row_end],
+        direction,
         q,
         k,
     );
+}
+
+// Transforms each row.
+fn turn_rows(x: &mut [u32], tables: &[u32], direction: Direction, rows: usize, q: u32, k: u32)
+    requires { RowsReady q k rows tables.now x.old × RowsGiven q rows direction x.old }
+    ensures { RowsTurned q direction rows tables.now x.old x.new }
+{
+    for r in 0..rows {
+        turn_row_at(x, tables, direction, r, rows, q, k);
+    }
 }
 
 // Transforms and twists each row.
@@ -66,11 +73,7 @@ pub fn inverse_rows(x: &mut [u32], tables: &[u32], rows: usize, q: u32, k: u32)
     requires { RowsReady q k rows tables.now x.old × AllBelow (2 * q) (rows * 256) x.old }
     ensures { InverseRows q rows tables.now x.old x.new }
 {
-    let mut r: usize = 0;
-    while r < rows {
-        inverse_row_at(x, tables, r, rows, q, k);
-        r += 1;
-    }
+    turn_rows(x, tables, Direction::Inverse, rows, q, k);
 }
 
 // The transform of the first `m` rows of `x`, with zeros for the others, stored in the order of 003: row `r`, column `c` is value r + δ · c. The twist
@@ -83,7 +86,7 @@ pub fn forward(x: &mut [u32], tables: &[u32], m: usize, rows: usize, q: u32)
     let by = montgomery::scaled_scale(q);
     let columns = rows * 256 + 264;
     ntt_columns::columns(x, &tables[columns..], m, rows, rows, q, k);
-    forward_rows(x, tables, by, rows, q, k);
+    turn_rows(x, tables, Direction::Forward(by), rows, q, k);
 }
 
 // The first `m` rows of what a stored vector was made from: the transform with the inverse of the root it was sent with, scaled by any e of which `by` is
@@ -107,10 +110,8 @@ fn column_total(x: &[u32], c: usize, rows: usize) -> u32
     ensures { result ≡ sum rows (λ n. at x.now (n * 256 + c)) }
 {
     let mut total: u32 = 0;
-    let mut n: usize = 0;
-    while n < rows {
+    for n in 0..rows {
         total += x[n * 256 + c];
-        n += 1;
     }
     total
 }

@@ -23,10 +23,8 @@ fn add_four(sums: &mut [u32], block: &[u32], a: u32, b: u32, c: u32, d: u32, q: 
     requires { AddReady q k a b c d sums.old block.now }
     ensures { Added q a b c d block.now sums.old sums.new }
 {
-    let mut j: usize = 0;
-    while j < 64 {
+    for j in 0..64 {
         sums[j] = sums[j] + montgomery::step(four_products(block, j, a, b, c, d), q, k);
-        j += 1;
     }
 }
 
@@ -44,10 +42,9 @@ fn column_sums(
     requires { SumsReady q k m r rows factors.now block.now sums.old }
     ensures { Sums q m r rows factors.now block.now sums.new }
 {
-    let mut n: usize = 0;
     let mut place: usize = 0;
     calls::clear(sums);
-    while n < m {
+    for n in (0..m).step_by(4) {
         let second = residues::advance(place, r, rows);
         let third = residues::advance(second, r, rows);
         let fourth = residues::advance(third, r, rows);
@@ -64,7 +61,6 @@ fn column_sums(
             k,
         );
         place = residues::advance(fourth, r, rows);
-        n += 4;
     }
 }
 
@@ -73,12 +69,10 @@ fn load_block(block: &mut [u32], x: &[u32], b: usize, m: usize)
     requires { LoadReady b m block.old x.now }
     ensures { Loaded b m x.now block.old block.new }
 {
-    let mut n: usize = 0;
-    while n < m {
+    for n in 0..m {
         let start = 256 * n + 64 * b;
         let end = start + 64;
         calls::copy_in(block, 64 * n, &x[start..end]);
-        n += 1;
     }
 }
 
@@ -101,11 +95,9 @@ fn column_block(
 {
     let mut sums = [0u32; 64];
     load_block(block, x, b, m);
-    let mut r: usize = 0;
-    while r < out {
+    for r in 0..out {
         column_sums(&mut sums, block, factors, m, r, rows, q, k);
         calls::copy_in(x, 256 * r + 64 * b, &sums);
-        r += 1;
     }
 }
 
@@ -116,9 +108,7 @@ pub fn columns(x: &mut [u32], factors: &[u32], m: usize, out: usize, rows: usize
     ensures { Columns q m out rows factors.now x.old x.new }
 {
     let mut block = [0u32; 1024];
-    let mut b: usize = 0;
-    while b < 4 {
+    for b in 0..4 {
         column_block(x, &mut block, factors, b, m, out, rows, q, k);
-        b += 1;
     }
 }

@@ -1,7 +1,7 @@
 -- The transform of a row of 256 numbers, and the rows of a whole transform, forward and inverse (003 section 3.2.2; algorithm 36, the transforms of
 -- length 256).
 -- Assumes nothing.
-use Rattle.std.specs.Prelude.{◌≡◌, List, ℕ, ◌+◌, ◌*◌, ◌%◌, ◌^◌, ◌<◌, length}
+use Rattle.std.specs.Prelude.{◌≡◌, List, ℕ, ◌*◌, ◌%◌, ◌<◌, length}
 use Rattle.maths.specs.Vector.{at, AllBelow}
 use Rattle.maths.specs.Congruence.{Mod}
 use Rattle.maths.specs.Transform.{transform_at}

@@ -9,10 +9,8 @@ fn multiply(to: &mut [u32], from: &[u32], by: &[u32], q: u32, k: u32)
     requires { MultiplyReady q k by.now from.now to.old }
     ensures { Multiplied q by.now from.now to.new }
 {
-    let mut i: usize = 0;
-    while i < 256 {
+    for i in 0..256 {
         to[i] = montgomery::product(from[i], by[i], q, k);
-        i += 1;
     }
 }
 

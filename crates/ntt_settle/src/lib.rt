@@ -20,9 +20,7 @@ pub fn settle(x: &mut [u32], by: u32, q: u32, k: u32)
     requires { Modulus q k × (by < q) }
     ensures { x.new ≡ tabulate (length x.old) (λ i. at x.old i * unscale q by % q) }
 {
-    let mut i: usize = 0;
-    while i < x.len() {
-        x[i] = settle_number(x[i], by, q, k);
-        i += 1;
+    for number in x.iter_mut() {
+        *number = settle_number(*number, by, q, k);
     }
 }

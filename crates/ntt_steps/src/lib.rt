@@ -29,8 +29,7 @@ fn narrow_part(to: &mut [u32], from: &[u32], roots: &[u32], part: usize, lift: u
     let t = roots[part];
     let u = roots[4 + part];
     let v = roots[2 * part];
-    let mut i: usize = 0;
-    while i < 16 {
+    for i in 0..16 {
         let j = start + i;
         let z = ntt_butterflies::twiddled_butterfly(
             from[j],
@@ -45,7 +44,6 @@ fn narrow_part(to: &mut [u32], from: &[u32], roots: &[u32], part: usize, lift: u
             k,
         );
         write_apart(to, out + i, 16, z);
-        i += 1;
     }
 }
 
@@ -54,10 +52,8 @@ fn narrow(to: &mut [u32], from: &[u32], roots: &[u32], lift: u32, q: u32, k: u32
     requires { StepReady q k lift roots.now from.now to.old }
     ensures { Parts q lift roots.now from.now to.new }
 {
-    let mut part: usize = 0;
-    while part < 4 {
+    for part in 0..4 {
         narrow_part(to, from, roots, part, lift, q, k);
-        part += 1;
     }
 }
 
@@ -67,8 +63,7 @@ fn wide(to: &mut [u32], from: &[u32], roots: &[u32], lift: u32, q: u32, k: u32)
     ensures { Quarters q lift roots.now from.now to.new }
 {
     let u = roots[4];
-    let mut i: usize = 0;
-    while i < 64 {
+    for i in 0..64 {
         let z = ntt_butterflies::plain_butterfly(
             from[i],
             from[64 + i],
@@ -80,7 +75,6 @@ fn wide(to: &mut [u32], from: &[u32], roots: &[u32], lift: u32, q: u32, k: u32)
             k,
         );
         write_apart(to, i, 64, z);
-        i += 1;
     }
 }
 
@@ -100,10 +94,8 @@ fn exchange_row(to: &mut [u32], from: &[u32], a: usize)
     ensures { ExchangedRow from.now a to.old to.new }
 {
     let start = 16 * a;
-    let mut b: usize = 0;
-    while b < 16 {
+    for b in 0..16 {
         to[start + b] = from[16 * b + a];
-        b += 1;
     }
 }
 
@@ -112,9 +104,7 @@ pub fn exchange(to: &mut [u32], from: &[u32])
     requires { (length from.now ≡ 256) × (length to.old ≡ 256) }
     ensures { Exchanged from.now to.new }
 {
-    let mut a: usize = 0;
-    while a < 16 {
+    for a in 0..16 {
         exchange_row(to, from, a);
-        a += 1;
     }
 }

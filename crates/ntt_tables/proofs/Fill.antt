@@ -20,52 +20,67 @@ use Rattle.ntt_tables.specs.Steps.{Scaling, Filled}
 pub scale_below : {q k by : ℕ} → Scaling q k by → by < q
 scale_below s = rw s.scale (mod-lt _ (omega (arith, s.modulus.modulus.some)))
 
--- what a product with the scaled form of 2^32 is the scaled form of
-pub scaled_back : {q k by r x : ℕ} (y : ℕ) → Scaling q k by → x < q → y % q ≡ x * unscale q by % q → r ≡ y % q → (unscale q r ≡ x) × (r < q)
-scaled_back {q} {by = by} {r} {x} y s h e f =
+-- a residue that a product with the scaled form of 2^32 makes is what that product is the scaled form of
+pub scaled_back : {q k by r x : ℕ} → Scaling q k by → x < q → r ≡ x * unscale q by % q → (unscale q r ≡ x) × (r < q)
+scaled_back {q} {by = by} {r} {x} s h e =
     let some : 0 < q = omega (arith, s.modulus.modulus.some) in
-    let same : Mod q r (unscale q by * x) = mod_trans (mod_eq (f ∙ e)) (mod_trans (mod_remainder q _) (mod_eq (mul_comm x (unscale q by)))) in
+    let same : Mod q r (unscale q by * x) = mod_trans (mod_eq e) (mod_trans (mod_remainder q _) (mod_eq (mul_comm x (unscale q by)))) in
     let back : Mod q (unscale q (unscale q by * x)) x =
     mod_trans (unscale_mul_left q (unscale q by) x)
     (mod_trans (mod_eq (mul_comm (unscale q by) (unscale q x)))
     (rw (← s.scale) at (unscale_twice_one s.modulus.modulus x))) in
-    (unscale_cong same ∙ sym (unscale_remainder q _) ∙ back.same ∙ mod-eq_of_lt h, rw f (mod-lt y some))
+    (unscale_cong same ∙ sym (unscale_remainder q _) ∙ back.same ∙ mod-eq_of_lt h, rw e (mod-lt _ some))
 
--- a loop that has written the first i of n powers
-pub record Filling (q start n : ℕ) (place : ℕ → ℕ) (old : List ℕ) (i : ℕ) (new : List ℕ) : Type 0 where
-  pub within : i ≤ n
-  pub filled : Filled q start i place old new
+-- a loop that has written the first i of n powers, each out of a place that Place relates to its number
+pub record Filling (q start n : ℕ) (Place : ℕ → ℕ → Type 0) (old : List ℕ) (i : ℕ) (new : List ℕ) : Type 0 where
+  pub size : length new ≡ length old
+  pub before : (j : ℕ) → j < start → at new j ≡ at old j
+  pub filled : (from : ℕ → ℕ) → ((j p : ℕ) → j < n → Place j p → p ≡ from j) → Filled q start i from old new
 
-module _ {q start : ℕ} {place : ℕ → ℕ} {old : List ℕ} where
+module _ {q start n : ℕ} {Place : ℕ → ℕ → Type 0} {old : List ℕ} where
   -- before the first power
-  pub filled_none : Filled q start 0 place old old
+  pub filled_none : Filling q start n Place old 0 old
   filled_none =
       record {
         size = refl;
-        values = λ i h. absurd (omega arith);
-        below = λ i h. absurd (omega arith);
         before = λ i h. refl;
-        after = λ i h. refl;
+        filled = λ from h.
+            record {
+              size = refl;
+              values = λ i h. absurd (omega arith);
+              below = λ i h. absurd (omega arith);
+              before = λ i h. refl;
+              after = λ i h. refl;
+            };
       }
 
   -- one more power
-  pub filled_more : {i k v : ℕ} {new : List ℕ} → Filled q start i place old new → k ≡ start + i → k < length new → unscale q v ≡ at old (place i) → v < q
-      → Filled q start (i + 1) place old (set new k v)
-  filled_more {i} {k} {v} {new} f e here value small =
+  pub filled_more : {i p v : ℕ} {new : List ℕ} → Filling q start n Place old i new → i < n → Place i p → p < start → start + n ≤ length old
+      → unscale q v ≡ at new p → v < q → Filling q start n Place old (i + 1) (set new (start + i) v)
+  filled_more {i} {p} {v} {new} f turn named low room value small =
+      let k : ℕ = start + i in
+      let here : k < length new = omega (arith, f.size) in
       record {
         size = length-set new k v ∙ f.size;
-        values = λ j h.
-            elim (eq-or-lt_of_le (le_of_suc-le-suc (rw add-one at h))) [
-              | inl last ↦ rw (last, ← e, get_or-set_same new k v 0 here) value
-              | inr less ↦ rw (get_or-set_other new k (start + j) v 0 (λ t. omega arith)) (f.values j less)
-            ];
-        below = λ j h.
-            elim (eq-or-lt_of_le (le_of_suc-le-suc (rw add-one at h))) [
-              | inl last ↦ rw (last, ← e, get_or-set_same new k v 0 here) small
-              | inr less ↦ rw (get_or-set_other new k (start + j) v 0 (λ t. omega arith)) (f.below j less)
-            ];
         before = λ j h. get_or-set_other new k j v 0 (λ t. omega arith) ∙ f.before j h;
-        after = λ j h. get_or-set_other new k j v 0 (λ t. omega arith) ∙ f.after j (omega arith);
+        filled = λ from same.
+            let made = f.filled from same in
+            let read : unscale q v ≡ at old (from i) = rw (← (same i p turn named)) (value ∙ f.before p low) in
+            record {
+              size = length-set new k v ∙ f.size;
+              values = λ j h.
+                  elim (eq-or-lt_of_le (le_of_suc-le-suc (rw add-one at h))) [
+                    | inl last ↦ rw (last, get_or-set_same new k v 0 here) read
+                    | inr less ↦ rw (get_or-set_other new k (start + j) v 0 (λ t. omega arith)) (made.values j less)
+                  ];
+              below = λ j h.
+                  elim (eq-or-lt_of_le (le_of_suc-le-suc (rw add-one at h))) [
+                    | inl last ↦ rw (last, get_or-set_same new k v 0 here) small
+                    | inr less ↦ rw (get_or-set_other new k (start + j) v 0 (λ t. omega arith)) (made.below j less)
+                  ];
+              before = λ j h. get_or-set_other new k j v 0 (λ t. omega arith) ∙ made.before j h;
+              after = λ j h. get_or-set_other new k j v 0 (λ t. omega arith) ∙ made.after j (omega arith);
+            };
       }
 
 -- the exponent of a power of the twist within a row

@@ -11,14 +11,12 @@ use lib.Arith.{digits_div, digits_mod}
 use lib.ListN.{length}
 use Rattle.maths.specs.Vector.{at, AllBelow}
 use Rattle.maths.specs.Congruence.{Mod}
-use Rattle.maths.specs.Root.{power_table}
-use Rattle.maths.proofs.Congruence.{mod_eq, mod_trans, mod_remainder}
+use Rattle.maths.proofs.Congruence.{mod_remainder}
 use Rattle.maths.proofs.Power.{pow_mul}
 use Rattle.maths.proofs.PowerTable.{power_table_at}
-use Rattle.calls.specs.Region.{region}
 use Rattle.calls.proofs.Region.{region_entry}
 use Rattle.montgomery.specs.Scaled.{unscale, Odd}
-use Rattle.ntt_tables.specs.Tables.{tables_length, RowTables, Powers, Ready, Tables}
+use Rattle.ntt_tables.specs.Tables.{tables_length, Powers, Ready, Tables}
 use Rattle.ntt_tables.specs.Steps.{Filled, Twisted}
 use Rattle.ntt_tables.proofs.Fill.{exponent_below}
 

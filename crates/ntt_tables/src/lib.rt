@@ -14,32 +14,27 @@ fn scaled(x: u32, by: u32, q: u32, k: u32) -> u32
     requires { Scaling q k by × (x < q) }
     ensures { (unscale q result ≡ x) × (result < q) }
 {
-    residues::reduce_once(montgomery::product(x, by, q, k), q)
+    ntt_settle::settle_number(x, by, q, k)
 }
 
-// Writes the 256 powers of the twist within a row from `start` on: their exponents are multiples of the number of rows.
-fn fill_row_twist(tables: &mut [u32], start: usize, rows: usize, by: u32, q: u32, k: u32)
-    requires { Scaling q k by × (start ≡ rows * 256) × (0 < rows) × (rows ≤ 16) × (start + 256 ≤ length tables.old) × AllBelow q start tables.old }
-    ensures { Filled q start 256 (λ i. rows * (i / 16 * (i % 16))) tables.old tables.new }
+// Writes `n` powers from `start` on, in scaled form: power i is the one that stands, before `start`, at the place that `place` gives for i.
+fn fill_powers<F: Fn(usize) -> usize>(
+    tables: &mut [u32],
+    start: usize,
+    n: usize,
+    place: F,
+    by: u32,
+    q: u32,
+    k: u32,
+)
+    requires numbers { Scaling q k by × (start + n ≤ length tables.old) × (start ≤ 8192) × AllBelow q start tables.old }
+    requires callable { (i : ℕ) → i < n → F.pre place i }
+    requires before { (i j : ℕ) → i < n → F.post place i j → j < start }
+    ensures { (from : ℕ → ℕ) → ((i j : ℕ) → i < n → F.post place i j → j ≡ from i) → Filled q start n from tables.old tables.new }
 {
-    let mut i: usize = 0;
-    while i < 256 {
-        let power = tables[rows * (i / 16 * (i % 16))];
+    for i in 0..n {
+        let power = tables[place(i)];
         tables[start + i] = scaled(power, by, q, k);
-        i += 1;
-    }
-}
-
-// Writes `n` powers from `start` on, whose exponents are multiples of `stride`.
-fn fill_strided(tables: &mut [u32], start: usize, n: usize, stride: usize, by: u32, q: u32, k: u32)
-    requires { Scaling q k by × (0 < stride) × (stride * n ≤ start) × (start + n ≤ length tables.old) × (start ≤ 8192) × AllBelow q start tables.old }
-    ensures { Filled q start n (λ i. stride * i) tables.old tables.new }
-{
-    let mut i: usize = 0;
-    while i < n {
-        let power = tables[stride * i];
-        tables[start + i] = scaled(power, by, q, k);
-        i += 1;
     }
 }
 
@@ -49,10 +44,8 @@ fn twist_row(tables: &mut [u32], r: usize)
     ensures { TwistedRow r tables.old tables.new }
 {
     let start = r * 256;
-    let mut c: usize = 0;
-    while c < 256 {
+    for c in 0..256 {
         tables[start + c] = tables[r * c];
-        c += 1;
     }
 }
 
@@ -61,9 +54,7 @@ fn twist_rows(tables: &mut [u32], rows: usize)
     requires { (rows ≤ 16) × (rows * 256 ≤ length tables.old) }
     ensures { Twisted rows tables.old tables.new }
 {
-    let mut r = rows;
-    while r > 0 {
-        r -= 1;
+    for r in (0..rows).rev() {
         twist_row(tables, r);
     }
 }
@@ -77,9 +68,9 @@ pub fn fill_tables(tables: &mut [u32], rows: usize, q: u32)
     let k = montgomery::negated_inverse(q);
     let by = montgomery::scaled_scale(q);
     let size = rows * 256;
-    fill_row_twist(tables, size, rows, by, q, k);
-    fill_strided(tables, size + 256, 8, 16 * rows, by, q, k);
-    fill_strided(tables, size + 264, rows, 256, by, q, k);
+    fill_powers(tables, size, 256, |i| rows * (i / 16 * (i % 16)), by, q, k);
+    fill_powers(tables, size + 256, 8, |i| 16 * rows * i, by, q, k);
+    fill_powers(tables, size + 264, rows, |i| 256 * i, by, q, k);
     twist_rows(tables, rows);
 }
 
@@ -87,13 +78,7 @@ pub fn fill_tables(tables: &mut [u32], rows: usize, q: u32)
 pub fn invert_powers(powers: &mut [u32])
     ensures { InvertedTable powers.old powers.new }
 {
-    let size = powers.len();
-    let mut i: usize = 1;
-    while i + i < size {
-        let a = powers[i];
-        let b = powers[size - i];
-        powers[i] = b;
-        powers[size - i] = a;
-        i += 1;
+    if let [_, later @ ..] = powers {
+        later.reverse();
     }
 }

@@ -2,8 +2,6 @@
 -- Assumes nothing.
 use mathlib.Core.Path.{◌≡◌, ap, ◌∙◌}
 use Prim.Native.Nat.{ℕ, ◌+◌, ◌*◌, ◌/◌, ◌%◌, ◌^◌}
-use native.Mathlib.Nat.{mod-lt}
-use native.Mathlib.Omega.{arith}
 use Rattle.montgomery.specs.Scaled as scaled
 use Rattle.montgomery.specs.Scaled.{unscale, lazy, lazy_long, Odd}
 use Rattle.montgomery.proofs.Lazy.{upper_kept}
@@ -17,14 +15,6 @@ two_steps q x s r t e h l = l ∙ ap (λ (y : ℕ). lazy q (y + x % 2 ^ 32)) (h 
 -- the step's remainder
 kept : (q x s r t : ℕ) → Odd q → s ≡ 2 ^ 64 % q → r % q ≡ x / 2 ^ 32 * unscale q s % q → t % q ≡ unscale q (r + x % 2 ^ 32) → t % q ≡ unscale q x
 kept q x s r t o e h l = l ∙ upper_kept o x r (h ∙ ap (λ (y : ℕ). x / 2 ^ 32 * unscale q y % q) e)
-
-pub product-upper-requires : goal.product-upper-requires
-product-upper-requires c =
-    (c.requires.0, rw c.requires.1 (mod-lt (2 ^ 64) (omega (arith, c.requires.0.modulus.some))))
-
-pub step-requires : goal.step-requires
-step-requires c =
-    (c.requires.0, omega (arith, c.product-upper.ensures.1, c.requires.0.modulus))
 
 pub returns : goal.returns
 returns c =

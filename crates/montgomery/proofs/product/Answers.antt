@@ -1,15 +1,9 @@
 -- `montgomery::product` meets its contract: the whole product is below q · 2^32.
 -- Assumes nothing.
 use mathlib.Core.Path.{ap, ◌∙◌}
-use native.Mathlib.Omega.{arith}
 use Rattle.montgomery.specs.Scaled.{unscale, lazy}
-use Rattle.montgomery.proofs.Reduction.{product_below}
 use Rattle.montgomery.proofs.Scaled.{unscale_product}
 use Rattle.montgomery.proofs.product.Goals as goal
-
-pub step-requires : goal.step-requires
-step-requires c =
-    (c.requires.0, omega (arith, product_below c.requires.1 c.ranges.a.fits, c.whole_product.ensures))
 
 pub returns : goal.returns
 returns c =

@@ -2,9 +2,9 @@
 -- Assumes nothing.
 use mathlib.Core.Path.{◌≡◌}
 use Prim.Native.Nat.{◌+◌, ◌*◌, ◌%◌, ◌<◌}
-use native.Mathlib.Nat.{mod-lt, mod-eq_of_lt}
+use native.Mathlib.Nat.{mod-eq_of_lt}
 use native.Mathlib.Omega.{arith}
-use Rattle.montgomery.proofs.Reduction.{product_below, multiplier, sum_below, quotient_below, quotient_is}
+use Rattle.montgomery.proofs.Reduction.{multiplier, sum_below, quotient_below, quotient_is}
 use Rattle.montgomery.proofs.Lazy.{quotient_lazy}
 use Rattle.montgomery.proofs.step.Goals as goal
 
@@ -15,20 +15,6 @@ whole c = mod-eq_of_lt (omega arith)
 -- the sum that is divided
 below : (c : goal.Start) → c.args.x + multiplier 4294967296 c.args.k c.args.x * c.args.q < 2 * c.args.q * 4294967296
 below c = sum_below 4294967296 c.args.q c.args.k c.requires.0.inverse c.args.x (omega arith) c.requires.1
-
-pub overflow_mul-m : goal.overflow_mul-m
-overflow_mul-m c = record { fits = product_below {b = 4294967296} {d = 4294967296} (mod-lt c.args.x (omega arith)) c.ranges.k.fits }
-
-pub overflow_mul-result : goal.overflow_mul-result
-overflow_mul-result c = rw (whole c) (omega (arith, below c))
-
-pub overflow_add-result : goal.overflow_add-result
-overflow_add-result c = rw (whole c) (omega (arith, below c))
-
-pub overflow_cast-result-2 : goal.overflow_cast-result-2
-overflow_cast-result-2 c =
-    rw (whole c)
-    (omega (arith, quotient_below 4294967296 c.args.q c.args.k c.requires.0.inverse c.args.x (omega arith) c.requires.1))
 
 pub returns : goal.returns
 returns c =

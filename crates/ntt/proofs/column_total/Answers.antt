@@ -1,6 +1,5 @@
 -- `ntt::column_total` meets its contract: after n turns the numbers of the first n rows are added up.
 -- Assumes nothing.
-use Prim.Native.Nat.{◌-◌}
 use native.Mathlib.Omega.{arith}
 use Rattle.ntt.proofs.Totals.{totalled_none, next_below, totalled_more, totalled_all}
 use Rattle.ntt.proofs.column_total.Goals as goal

@@ -14,8 +14,8 @@ columns-requires c =
     (columns_ready pre.0 c.negated_inverse-k.ensures pre.2 pre.1 (omega arith) pre.3 (omega
     (arith, pre.0.modulus.small)))
 
-pub forward_rows-requires : goal.forward_rows-requires
-forward_rows-requires c =
+pub turn_rows-requires : goal.turn_rows-requires
+turn_rows-requires c =
     let pre = c.requires in (
       record { modulus = c.negated_inverse-k.ensures; ready = pre.0; size = c.columns.auto.x ∙ pre.2 },
       rw c.scaled_scale-by.ensures (mod-lt _ (omega (arith, pre.0.modulus.some))),
@@ -25,4 +25,4 @@ pub returns : goal.returns
 returns c w made =
     let pre = c.requires in
     sent pre.0 made c.args.m pre.1 c.scaled_scale-by.ensures pre.2 (c.columns.auto.x ∙ pre.2)
-    (rw (rest c.args.tables.now (c.args.rows * 256 + 264)) at c.columns.ensures) c.forward_rows.ensures
+    (rw (rest c.args.tables.now (c.args.rows * 256 + 264)) at c.columns.ensures) c.turn_rows.ensures

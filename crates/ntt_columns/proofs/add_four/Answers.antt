@@ -1,6 +1,5 @@
 -- `ntt_columns::add_four` meets its contract: after j turns the first j sums have four products more.
 -- Assumes nothing.
-use Prim.Native.Nat.{◌-◌}
 use native.Mathlib.Omega.{arith}
 use Rattle.ntt_columns.proofs.Four.{adding_none, adding_more, adding_all, four_below, four_ready}
 use Rattle.ntt_columns.proofs.add_four.Goals as goal

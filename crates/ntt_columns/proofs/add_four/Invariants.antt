@@ -1,11 +1,7 @@
 -- `ntt_columns::add_four` meets its contract: after j turns the first j sums have four products more.
 -- Assumes nothing.
-use Prim.Native.Nat.{◌-◌}
 use Rattle.ntt_columns.proofs.Four.{Adding}
 use Rattle.ntt_columns.proofs.add_four.Given as goal
 
 abbrev pub invariant-loop-j : goal.invariant-loop-j
 invariant-loop-j l = Adding l.q l.a l.b l.c l.d l.block l.initial.sums l.j l.sums
-
-abbrev pub decreases-loop-j : goal.decreases-loop-j
-decreases-loop-j l = 64 - l.j

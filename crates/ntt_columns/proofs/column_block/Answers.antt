@@ -1,7 +1,6 @@
 -- `ntt_columns::column_block` meets its contract: after r turns the first r values of each of the 64 columns are written.
 -- Assumes nothing.
 use mathlib.Core.Path.{◌≡◌, refl, ◌∙◌}
-use Prim.Native.Nat.{◌-◌}
 use native.Mathlib.Omega.{arith}
 use lib.ListN.{length}
 use Rattle.ntt_columns.proofs.Loading.{loaded_zeros}

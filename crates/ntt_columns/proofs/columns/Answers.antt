@@ -1,7 +1,6 @@
 -- `ntt_columns::columns` meets its contract: after b turns the first 64 · b columns are transformed.
 -- Assumes nothing.
 use mathlib.Core.Path.{refl}
-use Prim.Native.Nat.{◌-◌}
 use Rattle.ntt_columns.proofs.Loading.{zeros_at}
 use Rattle.ntt_columns.proofs.Blocks.{columns_none, block_ready, columns_more, columns_all}
 use Rattle.ntt_columns.proofs.columns.Goals as goal

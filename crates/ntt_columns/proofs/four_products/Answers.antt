@@ -2,7 +2,6 @@
 -- Assumes nothing.
 use Prim.Native.Nat.{◌+◌, ◌^◌, ◌≤◌}
 use native.Mathlib.Omega.{arith}
-use Rattle.maths.specs.Vector.{at}
 use Rattle.ntt_columns.proofs.Four.{product_most, four_is}
 use Rattle.ntt_columns.proofs.four_products.Goals.{After-whole_product, After-whole_product-2, After-whole_product-3, After-whole_product-4}
 use Rattle.ntt_columns.proofs.four_products.Goals as goal

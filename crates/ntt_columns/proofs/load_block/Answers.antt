@@ -1,7 +1,7 @@
 -- `ntt_columns::load_block` meets its contract: after n turns the first n rows are copied.
 -- Assumes nothing.
 use mathlib.Core.Path.{refl}
-use Prim.Native.Nat.{◌+◌, ◌*◌, ◌-◌}
+use Prim.Native.Nat.{◌+◌, ◌*◌}
 use Rattle.calls.proofs.Region.{region_part, region_length}
 use Rattle.ntt_columns.proofs.Loading.{row_inside, row_room, loading_more, loading_all}
 use Rattle.ntt_columns.proofs.load_block.Goals as goal

@@ -1,6 +1,5 @@
 -- `ntt_rows::multiply` meets its contract: after i turns the first i products are written.
 -- Assumes nothing.
-use Prim.Native.Nat.{◌-◌}
 use native.Mathlib.Omega.{arith}
 use Rattle.calls.proofs.Written.{written_none, written_more}
 use Rattle.ntt_rows.proofs.Rows.{multiplied}

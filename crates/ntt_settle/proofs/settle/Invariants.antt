@@ -1,14 +1,11 @@
 -- `ntt_settle::settle` meets its contract: after i turns the first i numbers are residues, and the others are as they were.
 -- Assumes nothing.
-use Prim.Native.Nat.{◌*◌, ◌-◌, ◌%◌}
+use Prim.Native.Nat.{◌*◌, ◌%◌}
 use lib.ListN.{length}
 use Rattle.maths.specs.Vector.{at, tabulate}
 use Rattle.calls.proofs.Filled.{Filled}
 use Rattle.montgomery.specs.Scaled.{unscale}
 use Rattle.ntt_settle.proofs.settle.Given as goal
 
-abbrev pub invariant-loop-i : goal.invariant-loop-i
-invariant-loop-i l = Filled l.initial.x 0 (length l.initial.x) (tabulate (length l.initial.x) (λ j. at l.initial.x j * unscale l.q l.by % l.q)) l.i l.x
-
-abbrev pub decreases-loop-i : goal.decreases-loop-i
-decreases-loop-i l = length l.initial.x - l.i
+abbrev pub invariant-loop-number : goal.invariant-loop-number
+invariant-loop-number l = Filled l.initial.x 0 (length l.initial.x) (tabulate (length l.initial.x) (λ j. at l.initial.x j * unscale l.q l.by % l.q)) l.number-index l.x

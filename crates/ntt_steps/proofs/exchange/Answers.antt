@@ -1,6 +1,5 @@
 -- `ntt_steps::exchange` meets its contract: after a turns the first a rows are written.
 -- Assumes nothing.
-use Prim.Native.Nat.{◌-◌}
 use Rattle.ntt_steps.proofs.Exchanges.{exchanged_none, exchanged_more, exchanged_all}
 use Rattle.ntt_steps.proofs.exchange.Goals as goal
 

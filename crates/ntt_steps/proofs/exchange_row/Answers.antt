@@ -1,6 +1,5 @@
 -- `ntt_steps::exchange_row` meets its contract: after b turns the first b numbers of the row are written.
 -- Assumes nothing.
-use Prim.Native.Nat.{◌-◌}
 use mathlib.Core.Path.{refl}
 use native.Mathlib.Omega.{arith}
 use Rattle.calls.proofs.Written.{written_none, written_more, written_others}

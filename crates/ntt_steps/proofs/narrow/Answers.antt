@@ -1,6 +1,5 @@
 -- `ntt_steps::narrow` meets its contract: after as many turns the first parts are written.
 -- Assumes nothing.
-use Prim.Native.Nat.{◌-◌}
 use Rattle.ntt_steps.proofs.Halves.{parts_none, parts_next, parts_more, parts_all}
 use Rattle.ntt_steps.proofs.narrow.Goals as goal
 

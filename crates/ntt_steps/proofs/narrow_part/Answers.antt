@@ -1,6 +1,6 @@
 -- `ntt_steps::narrow_part` meets its contract: after i turns the first i butterflies are written.
 -- Assumes nothing.
-use Prim.Native.Nat.{◌+◌, ◌-◌, ◌*◌, ◌≤◌}
+use Prim.Native.Nat.{◌+◌, ◌*◌, ◌≤◌}
 use lib.ListN.{length}
 use native.Mathlib.Omega.{arith}
 use Rattle.ntt_steps.proofs.FourWritten.{four_none, four_more}

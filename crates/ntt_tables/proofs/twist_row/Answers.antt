@@ -1,7 +1,7 @@
 -- `ntt_tables::twist_row` meets its contract: after c turns the first c places of the row are written.
 -- Assumes nothing.
 use mathlib.Core.Path.{refl}
-use Prim.Native.Nat.{◌*◌, ◌-◌, ◌≤◌}
+use Prim.Native.Nat.{◌*◌, ◌≤◌}
 use native.Mathlib.Nat.{mul-le-mul_left}
 use native.Mathlib.Omega.{arith}
 use Rattle.ntt_tables.proofs.Twist.{twisting_none, twisting_more, twisting_all}

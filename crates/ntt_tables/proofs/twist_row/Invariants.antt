@@ -1,11 +1,7 @@
 -- `ntt_tables::twist_row` meets its contract: after c turns the first c places of the row are written.
 -- Assumes nothing.
-use Prim.Native.Nat.{◌-◌}
 use Rattle.ntt_tables.proofs.Twist.{Twisting}
 use Rattle.ntt_tables.proofs.twist_row.Given as goal
 
 abbrev pub invariant-loop-c : goal.invariant-loop-c
 invariant-loop-c l = Twisting l.r l.initial.tables l.c l.tables
-
-abbrev pub decreases-loop-c : goal.decreases-loop-c
-decreases-loop-c l = 256 - l.c

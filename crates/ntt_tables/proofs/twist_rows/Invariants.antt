@@ -5,6 +5,3 @@ use Rattle.ntt_tables.proofs.twist_rows.Given as goal
 
 abbrev pub invariant-loop-r : goal.invariant-loop-r
 invariant-loop-r l = RowsTwisted l.rows l.initial.tables l.r l.tables
-
-abbrev pub decreases-loop-r : goal.decreases-loop-r
-decreases-loop-r l = l.r

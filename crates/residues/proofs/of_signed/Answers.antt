@@ -1,23 +1,12 @@
 -- `residues::of_signed` meets its contract: z is raised by a multiple of q, to less than 2^48.
 -- Assumes nothing.
 use mathlib.Core.Path.{ap, ◌∙◌}
-use Prim.Native.Nat.{◌^◌, ◌<◌}
-use native.Mathlib.Omega.{arith}
+use Prim.Native.Nat.{◌^◌}
 use lib.IntN.{ℤ, pos, ◌+ℤ◌}
 use mir.Syntax.{w32}
 use mir.ValLaws.{to_z-of_z}
-use Rattle.residues.proofs.Signed.{raised_small, raised_residue}
+use Rattle.residues.proofs.Signed.{raised_residue}
 use Rattle.residues.proofs.of_signed.Goals as goal
-
--- z + 2^24 is small
-small : (c : goal.After-raised) → c.raised.result < 2 ^ 25
-small c = raised_small c.args.z c.ranges.z c.requires.2 c.raised.result c.raised.ensures
-
-pub overflow_add-raised : goal.overflow_add-raised
-overflow_add-raised c = record { fits = omega (arith, small c) }
-
-pub reduce_product-requires : goal.reduce_product-requires
-reduce_product-requires c = (omega (arith, small c), c.requires.0)
 
 pub returns : goal.returns
 returns c =

@@ -1,15 +1,12 @@
 -- `residues::quotient_estimate` meets its contract: the quotient is estimated by the reciprocal of q.
 -- Assumes nothing.
 use native.Mathlib.Omega.{arith}
-use Rattle.residues.proofs.Barrett.{Reciprocal, reciprocal, estimate_fits, estimate_most, estimate_least}
+use Rattle.residues.proofs.Barrett.{Reciprocal, reciprocal, estimate_most, estimate_least}
 use Rattle.residues.proofs.quotient_estimate.Goals as goal
 
 -- what the call gives is a reciprocal
 inverse : (c : goal.After-reciprocal) → Reciprocal c.args.q c.reciprocal.result
 inverse c = rw c.reciprocal.ensures (reciprocal (omega arith))
-
-pub overflow_mul-result : goal.overflow_mul-result
-overflow_mul-result c = record { fits = estimate_fits (inverse c) c.requires.0 c.requires.1 }
 
 pub returns : goal.returns
 returns c =

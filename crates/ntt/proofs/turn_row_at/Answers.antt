@@ -1,4 +1,4 @@
--- `ntt::inverse_row_at` meets its contract: the part that is lent is the row, and comes back transformed.
+-- `ntt::turn_row_at` meets its contract: the part that is lent is the row, and comes back transformed.
 -- Assumes nothing.
 use mathlib.Core.Path.{◌≡◌, refl, ◌∙◌}
 use Prim.Native.Nat.{◌+◌, ◌*◌}
@@ -6,8 +6,8 @@ use native.Mathlib.Omega.{arith}
 use lib.ListN.{length}
 use Rattle.calls.specs.Region.{region}
 use Rattle.calls.proofs.Region.{region_part, region_length, over_lent}
-use Rattle.ntt.proofs.Rows.{row_inside, inverse_ready}
-use Rattle.ntt.proofs.inverse_row_at.Goals as goal
+use Rattle.ntt.proofs.Rows.{row_inside}
+use Rattle.ntt.proofs.turn_row_at.Goals as goal
 
 pub overflow_mul-start : goal.overflow_mul-start
 overflow_mul-start c = let pre = c.requires in omega (arith, pre.1, pre.0.ready.few_rows)
@@ -24,11 +24,11 @@ overflow_add-row_end c = let pre = c.requires in omega (arith, pre.0.ready.few_r
 pub offset_bounds-x-start : goal.offset_bounds-x-start
 offset_bounds-x-start c = let pre = c.requires in omega (arith, pre.1, pre.0.ready.few_rows)
 
-pub slice_bounds-inverse_row-end : goal.slice_bounds-inverse_row-end
-slice_bounds-inverse_row-end c = let pre = c.requires in omega (arith, row_inside pre.0 pre.1, pre.0.size)
+pub slice_bounds-turn_row-end : goal.slice_bounds-turn_row-end
+slice_bounds-turn_row-end c = let pre = c.requires in omega (arith, row_inside pre.0 pre.1, pre.0.size)
 
-pub inverse_row-requires : goal.inverse_row-requires
-inverse_row-requires c =
+pub turn_row-requires : goal.turn_row-requires
+turn_row-requires c =
     let a = c.args.r * 256 in
     let b = c.args.rows * 256 in
     rw (
@@ -36,13 +36,13 @@ inverse_row-requires c =
       region_part c.args.tables.now b 264 (b + 264) refl,
       region_part c.args.x.now a 256 (a + 256) refl,
     )
-    (inverse_ready c.requires.0 c.requires.1 c.requires.2)
+    c.requires.2
 
 pub returns : goal.returns
 returns c =
     let a = c.args.r * 256 in
     let b = c.args.rows * 256 in
-    let made = c.inverse_row in
+    let made = c.turn_row in
     let old : length (region c.args.x.now a 256) ≡ 256 =
     region_length c.args.x.now a 256 (omega (arith, row_inside c.requires.0 c.requires.1, c.requires.0.size)) in
     let size : length made.new.x ≡ 256 = rw (region_part c.args.x.now a 256 (a + 256) refl) at made.auto.x ∙ old in
