@@ -45,10 +45,7 @@ pub fn load_reversed(x: &mut [u32], a: &[u32])
     ensures { x.new
         ≡ over x.old 0 (tabulate (length a.now) (λ j. at a.now (length a.now - 1 - j))) }
 {
-    let n = a.len();
-    let mut j: usize = 0;
-    while j < n {
-        x[j] = a[n - 1 - j];
-        j += 1;
-    }
+    let front = &mut x[0..a.len()];
+    front.copy_from_slice(a);
+    front.reverse();
 }

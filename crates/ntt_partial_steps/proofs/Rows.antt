@@ -7,7 +7,7 @@ use native.Mathlib.Nat.{zero-add, mod-lt, mul-zero, mul-le-mul_right}
 use native.Mathlib.Omega.{arith}
 use lib.ListN.{length, take}
 use lib.Seq.{length-take-le, get_or-take}
-use Rattle.maths.specs.Vector.{at, AllBelow}
+use Rattle.maths.specs.Vector.{AllBelow}
 use Rattle.maths.specs.Root.{power_table}
 use Rattle.maths.proofs.PowerTable.{power_table_length, power_table_at}
 use Rattle.sets.specs.declared.Parameters.{Parameters}

@@ -12,26 +12,7 @@ ghost use Rattle.ntt_partial_steps.specs.Split.{Split, Wide};
 
 use sets::Parameters;
 
-// The transform of the first `m` rows by written-out sums; `powers` is lent for those of the root.
-fn forward_with_powers(
-    p: Parameters,
-    i: usize,
-    rows: usize,
-    row: usize,
-    m: usize,
-    input: &[u32],
-    out: &mut [u32],
-    powers: &mut [u32],
-)
-    requires { Listed p × Split p i rows row m input.now × (length out.old ≡ rows * row) × (length powers.old ≡ rows * row) }
-    ensures { out.new ≡ send p.q row rows (transform_root p i) (take (m * row) input.now) }
-{
-    let end = m * row;
-    roots::load_powers(p, i, powers);
-    ntt_plain::forward(out, &input[0..end], powers, m, rows, row, p.q);
-}
-
-// The same with room for the powers.
+// The transform of the first `m` rows by written-out sums.
 pub fn forward_plain(
     p: Parameters,
     i: usize,
@@ -44,32 +25,12 @@ pub fn forward_plain(
     requires { Listed p × Split p i rows row m input.now × (length out.old ≡ rows * row) }
     ensures { out.new ≡ send p.q row rows (transform_root p i) (take (m * row) input.now) }
 {
-    let mut powers = [0u32; 3328];
-    let size = out.len();
-    forward_with_powers(p, i, rows, row, m, input, out, &mut powers[0..size]);
+    let end = m * row;
+    let powers = roots::powers(p, i);
+    ntt_plain::forward(out, &input[0..end], powers, m, rows, row, p.q);
 }
 
-// The first `m` rows of what the input was made from, by written-out sums; `powers` is lent for those of the inverse of the root.
-fn inverse_with_powers(
-    p: Parameters,
-    i: usize,
-    rows: usize,
-    row: usize,
-    m: usize,
-    input: &[u32],
-    out: &mut [u32],
-    powers: &mut [u32],
-)
-    requires { Listed p × Split p i rows row m input.now × (length out.old ≡ m * row) × (length powers.old ≡ rows * row) }
-    ensures { out.new
-        ≡ recover p.q row rows (root_inverse_of p i) (size_inverse_of p i) (m * row) input.now }
-{
-    let e = ntt_products::size_inverse_of(p, i);
-    ntt_products::load_inverse_powers(p, i, powers);
-    ntt_plain::inverse(out, input, powers, e, rows, row, p.q);
-}
-
-// The same with room for the powers.
+// The first `m` rows of what the input was made from, by written-out sums.
 pub fn inverse_plain(
     p: Parameters,
     i: usize,
@@ -83,77 +44,40 @@ pub fn inverse_plain(
     ensures { out.new
         ≡ recover p.q row rows (root_inverse_of p i) (size_inverse_of p i) (m * row) input.now }
 {
-    let mut powers = [0u32; 3328];
-    let size = input.len();
-    inverse_with_powers(p, i, rows, row, m, input, out, &mut powers[0..size]);
+    let mut room = [0u32; 3328];
+    let powers = &mut room[0..input.len()];
+    let e = ntt_products::size_inverse_of(p, i);
+    ntt_products::load_inverse_powers(p, i, powers);
+    ntt_plain::inverse(out, input, powers, e, rows, row, p.q);
 }
 
-// The transform of the first `m` rows of 256 numbers, through the transforms that the scheme uses; `tables` is lent for those of the root.
-fn forward_with_tables(
-    p: Parameters,
-    i: usize,
-    m: usize,
-    input: &[u32],
-    out: &mut [u32],
-    tables: &mut [u32],
-)
-    requires { Listed p × Wide p i m input.now × (length out.old ≡ length input.now)
-        × (length tables.old ≡ table_length_of p i) }
+// The transform of the first `m` rows of 256 numbers, through the transforms that the scheme uses.
+pub fn forward_wide(p: Parameters, i: usize, m: usize, input: &[u32], out: &mut [u32])
+    requires { Listed p × Wide p i m input.now × (length out.old ≡ length input.now) }
     ensures { out.new ≡ sent p i (take (m * 256) input.now) }
 {
     let end = m * 256;
+    let mut room = [0u32; 3605];
+    let length = ntt_products::table_length(p, i);
+    let tables = &mut room[0..length];
     calls::copy_in(out, 0, &input[0..end]);
     ntt_products::load_tables(p, i, tables);
     ntt_products::send_first(p, i, tables, out, end);
 }
 
-// The same with room for the tables.
-pub fn forward_wide(p: Parameters, i: usize, m: usize, input: &[u32], out: &mut [u32])
-    requires { Listed p × Wide p i m input.now × (length out.old ≡ length input.now) }
-    ensures { out.new ≡ sent p i (take (m * 256) input.now) }
-{
-    let mut tables = [0u32; 3605];
-    let room = ntt_products::table_length(p, i);
-    forward_with_tables(p, i, m, input, out, &mut tables[0..room]);
-}
-
-// The first `m` rows of 256 numbers of what the input was made from; `tables` is lent for those of the inverse of the root, `between` for all rows.
-fn inverse_with_tables(
-    p: Parameters,
-    i: usize,
-    m: usize,
-    input: &[u32],
-    out: &mut [u32],
-    tables: &mut [u32],
-    between: &mut [u32],
-)
-    requires { Listed p × Wide p i m input.now × (length out.old ≡ m * 256)
-        × (length tables.old ≡ table_length_of p i) × (length between.old ≡ length input.now) }
-    ensures { out.new ≡ recovered p i (m * 256) input.now }
-{
-    let end = m * 256;
-    calls::copy_in(between, 0, input);
-    ntt_products::load_inverse_tables(p, i, tables);
-    ntt_products::recover_first(p, i, tables, between, end);
-    calls::copy_in(out, 0, &between[0..end]);
-}
-
-// The same with room for both.
+// The first `m` rows of 256 numbers of what the input was made from, through the same transforms, which need all places.
 pub fn inverse_wide(p: Parameters, i: usize, m: usize, input: &[u32], out: &mut [u32])
     requires { Listed p × Wide p i m input.now × (length out.old ≡ m * 256) }
     ensures { out.new ≡ recovered p i (m * 256) input.now }
 {
-    let mut tables = [0u32; 3605];
-    let mut between = [0u32; 3328];
-    let room = ntt_products::table_length(p, i);
-    let size = input.len();
-    inverse_with_tables(
-        p,
-        i,
-        m,
-        input,
-        out,
-        &mut tables[0..room],
-        &mut between[0..size],
-    );
+    let end = m * 256;
+    let mut room = [0u32; 3605];
+    let mut places = [0u32; 3328];
+    let length = ntt_products::table_length(p, i);
+    let tables = &mut room[0..length];
+    let x = &mut places[0..input.len()];
+    x.copy_from_slice(input);
+    ntt_products::load_inverse_tables(p, i, tables);
+    ntt_products::recover_first(p, i, tables, x, end);
+    out.copy_from_slice(&x[0..end]);
 }

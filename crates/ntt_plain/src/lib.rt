@@ -23,14 +23,10 @@ fn strided_sum(
     ensures { result ≡ strided_sum_of x.now first stride count powers.now step }
 {
     let mut total: u64 = 0;
-    let mut place = first;
     let mut power: usize = 0;
-    let mut j: usize = 0;
-    while j < count {
-        total += residues::product(x[place], powers[power]);
-        place += stride;
+    for j in 0..count {
+        total += residues::product(x[first + stride * j], powers[power]);
         power = residues::advance(power, step, powers.len());
-        j += 1;
     }
     total
 }
@@ -51,11 +47,9 @@ fn fill_columns(
         × Modulus q k × (s ≡ 2 ^ 64 % q) }
     ensures { Lazily q (columns q row m (length to.old) powers.now x.now) to.new }
 {
-    let mut i: usize = 0;
-    while i < to.len() {
+    for (i, number) in to.iter_mut().enumerate() {
         let sum = strided_sum(x, i % row, row, m, powers, i / row * row);
-        to[i] = montgomery::long_step(sum, s, q, k);
-        i += 1;
+        *number = montgomery::long_step(sum, s, q, k);
     }
 }
 
@@ -72,11 +66,9 @@ fn twist(x: &mut [u32], powers: &[u32], row: usize, q: u32, k: u32)
     requires { Plain q row powers.now x.old × Modulus q k }
     ensures { Lazily q (twisted q row powers.now x.old) x.new }
 {
-    let mut i: usize = 0;
-    while i < x.len() {
+    for (i, number) in x.iter_mut().enumerate() {
         let exponent = twist_exponent(i, row);
-        x[i] = montgomery::product(x[i], powers[exponent], q, k);
-        i += 1;
+        *number = montgomery::product(*number, powers[exponent], q, k);
     }
 }
 
@@ -95,11 +87,9 @@ fn fill_rows(
         × (length to.old ≡ length x.now) × Modulus q k × (s ≡ 2 ^ 64 % q) }
     ensures { Lazily q (rows q row count powers.now x.now) to.new }
 {
-    let mut i: usize = 0;
-    while i < to.len() {
+    for (i, number) in to.iter_mut().enumerate() {
         let sum = strided_sum(x, i / row * row, 1, row, powers, i % row * count);
-        to[i] = montgomery::long_step(sum, s, q, k);
-        i += 1;
+        *number = montgomery::long_step(sum, s, q, k);
     }
 }
 

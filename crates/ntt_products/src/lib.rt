@@ -21,10 +21,8 @@ fn multiply(x: &mut [u32], y: &[u32], q: u32, k: u32)
     requires { Modulus q k × (length y.now ≡ length x.old) × AllBelow q (length x.old) y.now }
     ensures { x.new ≡ products q x.old y.now }
 {
-    let mut j: usize = 0;
-    while j < x.len() {
-        x[j] = ntt_settle::settle_number(x[j], y[j], q, k);
-        j += 1;
+    for (j, number) in x.iter_mut().enumerate() {
+        *number = ntt_settle::settle_number(*number, y[j], q, k);
     }
 }
 
@@ -34,11 +32,9 @@ pub fn accumulate(total: &mut [u32], x: &[u32], y: &[u32], q: u32, k: u32)
         × AllBelow q (length total.old) total.old × AllBelow q (length total.old) x.now }
     ensures { total.new ≡ accumulated q total.old (unscaled q x.now) y.now }
 {
-    let mut j: usize = 0;
-    while j < total.len() {
+    for (j, sum) in total.iter_mut().enumerate() {
         let product = ntt_settle::settle_number(y[j], x[j], q, k);
-        total[j] = residues::add(total[j], product, q);
-        j += 1;
+        *sum = residues::add(*sum, product, q);
     }
 }
 

@@ -13,10 +13,6 @@ same true b = refl
 same false true = refl
 same false false = refl
 
-pub bench_size : (i : ℕ) → transform_size_of (set_of 0) i ≡ 4
-unfolding none table set_of transform_size_of
-bench_size i = same (eqb i 1) (eqb i 2)
-
 pub bench_powers : (i : ℕ) → root_powers (set_of 0) i ≡ power_table 17 4 4
 unfolding none table set_of transform_size_of transform_root root_powers
 bench_powers i = rw (same (eqb i 1) (eqb i 2))

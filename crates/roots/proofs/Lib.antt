@@ -1,4 +1,3 @@
 pub mod Roots
 pub mod Bench
 pub mod Laws
-pub mod LastSet

@@ -1,13 +1,12 @@
 // The powers of the roots of sets 5 and 11. Written by root_tables, not by hand.
 #![tactic(auto)]
 
-ghost use Rattle.std.specs.Prelude.{◌≡◌, length};
-ghost use Rattle.maths.specs.Root.{power_table};
+ghost use Rattle.std.specs.Prelude.{◌≡◌, ◌⊎◌};
 ghost use Rattle.sets.specs.Table.{set_of};
-ghost use Rattle.sets.specs.Derived.{transform_size_of, root_powers};
+ghost use Rattle.sets.specs.Derived.{root_powers};
 
 // The powers of 1691 modulo 737281.
-const POWERS5_FIRST: [u32; 1024] = [
+static POWERS5_FIRST: [u32; 1024] = [
     1, 1691, 647638, 293573, 241830, 480856, 643834, 496538, 619980, 709879, 111921, 514475,
     722926, 55968, 269920, 57781, 386579, 474123, 317546, 229718, 643332, 384937, 646625, 55152,
     364626, 215650, 447336, 732151, 172542, 542527, 235593, 256023, 150946, 150460, 65915, 132834,
@@ -96,15 +95,8 @@ const POWERS5_FIRST: [u32; 1024] = [
     592401, 522493, 273025, 147369,
 ];
 
-pub fn set5_first(out: &mut [u32])
-    requires { length out.old ≡ 1024 }
-    ensures { out.new ≡ power_table 737281 1691 1024 }
-{
-    calls::copy_in(out, 0, &POWERS5_FIRST);
-}
-
 // The powers of 5454 modulo 737281.
-const POWERS5_SECOND: [u32; 2304] = [
+static POWERS5_SECOND: [u32; 2304] = [
     1, 5454, 254876, 319019, 683747, 726121, 327683, 13938, 77909, 241830, 682392, 708761, 18211,
     527140, 362941, 618010, 515089, 254796, 619980, 200254, 272155, 186717, 169457, 405385, 601352,
     347920, 531667, 722926, 596897, 380623, 471827, 233768, 211823, 700596, 460442, 71582, 386579,
@@ -299,15 +291,8 @@ const POWERS5_SECOND: [u32; 2304] = [
     592401, 189712, 284005, 673170, 547081, 3567, 285112, 75219, 316190,
 ];
 
-pub fn set5_second(out: &mut [u32])
-    requires { length out.old ≡ 2304 }
-    ensures { out.new ≡ power_table 737281 5454 2304 }
-{
-    calls::copy_in(out, 0, &POWERS5_SECOND);
-}
-
 // The powers of 332395 modulo 737281.
-const POWERS5_THIRD: [u32; 2560] = [
+static POWERS5_THIRD: [u32; 2560] = [
     1, 332395, 454489, 256974, 657037, 647638, 326630, 390633, 424563, 399456, 241830, 284544,
     384357, 81492, 566681, 643834, 332965, 438422, 530073, 413298, 619980, 102509, 37640, 426511,
     572198, 111921, 256097, 372617, 192525, 568418, 722926, 152407, 9974, 492354, 269698, 269920,
@@ -524,29 +509,8 @@ const POWERS5_THIRD: [u32; 2560] = [
     666390, 424096,
 ];
 
-pub fn set5_third(out: &mut [u32])
-    requires { length out.old ≡ 2560 }
-    ensures { out.new ≡ power_table 737281 332395 2560 }
-{
-    calls::copy_in(out, 0, &POWERS5_THIRD);
-}
-
-// The powers of root number i of set 5.
-pub fn load_set5(i: usize, out: &mut [u32])
-    requires { length out.old ≡ transform_size_of (set_of 5) i }
-    ensures { out.new ≡ root_powers (set_of 5) i }
-{
-    if i == 1 {
-        set5_first(out);
-    } else if i == 2 {
-        set5_second(out);
-    } else {
-        set5_third(out);
-    }
-}
-
 // The powers of 874 modulo 783361.
-const POWERS11_FIRST: [u32; 1024] = [
+static POWERS11_FIRST: [u32; 1024] = [
     1, 874, 763876, 204052, 518501, 387216, 14832, 429392, 58689, 375721, 151895, 368221, 647144,
     17214, 161177, 647079, 743765, 644341, 700836, 725723, 542853, 520117, 232878, 644873, 382443,
     543396, 211338, 619577, 207847, 701887, 77575, 431504, 337855, 741534, 261169, 303655, 618452,
@@ -635,15 +599,8 @@ const POWERS11_FIRST: [u32; 1024] = [
     212755, 291313, 15237,
 ];
 
-pub fn set11_first(out: &mut [u32])
-    requires { length out.old ≡ 1024 }
-    ensures { out.new ≡ power_table 783361 874 1024 }
-{
-    calls::copy_in(out, 0, &POWERS11_FIRST);
-}
-
 // The powers of 596706 modulo 783361.
-const POWERS11_SECOND: [u32; 2304] = [
+static POWERS11_SECOND: [u32; 2304] = [
     1, 596706, 108550, 232015, 569699, 172100, 742388, 645233, 304608, 518501, 313951, 362422,
     44106, 518680, 587229, 208847, 56658, 657871, 58689, 708290, 399298, 347433, 433770, 503527,
     253873, 408797, 57531, 647144, 36158, 366886, 312290, 185421, 698947, 555377, 617278, 277512,
@@ -838,15 +795,8 @@ const POWERS11_SECOND: [u32; 2304] = [
     195636, 718796, 154451, 200117, 163928, 99820, 339285, 11648, 452696, 45746, 698631, 2921,
 ];
 
-pub fn set11_second(out: &mut [u32])
-    requires { length out.old ≡ 2304 }
-    ensures { out.new ≡ power_table 783361 596706 2304 }
-{
-    calls::copy_in(out, 0, &POWERS11_SECOND);
-}
-
 // The powers of 13502 modulo 783361.
-const POWERS11_THIRD: [u32; 2560] = [
+static POWERS11_THIRD: [u32; 2560] = [
     1, 13502, 564252, 344779, 474996, 19485, 660535, 761946, 698240, 670206, 518501, 686606,
     260138, 575913, 336040, 768529, 278752, 443260, 18480, 408162, 58689, 440907, 366075, 520101,
     355698, 631466, 736169, 469470, 610089, 380763, 647144, 129694, 316553, 80990, 738385, 622184,
@@ -1063,23 +1013,17 @@ const POWERS11_THIRD: [u32; 2560] = [
     262476, 25788, 377292,
 ];
 
-pub fn set11_third(out: &mut [u32])
-    requires { length out.old ≡ 2560 }
-    ensures { out.new ≡ power_table 783361 13502 2560 }
+// The powers of root number i of set 5 or 11.
+pub fn powers(set: usize, i: usize) -> &'static [u32]
+    requires { (set ≡ 5) ⊎ (set ≡ 11) }
+    ensures { result.now ≡ root_powers (set_of set) i }
 {
-    calls::copy_in(out, 0, &POWERS11_THIRD);
-}
-
-// The powers of root number i of set 11.
-pub fn load_set11(i: usize, out: &mut [u32])
-    requires { length out.old ≡ transform_size_of (set_of 11) i }
-    ensures { out.new ≡ root_powers (set_of 11) i }
-{
-    if i == 1 {
-        set11_first(out);
-    } else if i == 2 {
-        set11_second(out);
-    } else {
-        set11_third(out);
+    match (set, i) {
+        (5, 1) => &POWERS5_FIRST,
+        (5, 2) => &POWERS5_SECOND,
+        (5, _) => &POWERS5_THIRD,
+        (_, 1) => &POWERS11_FIRST,
+        (_, 2) => &POWERS11_SECOND,
+        _ => &POWERS11_THIRD,
     }
 }

@@ -1,13 +1,12 @@
 // The powers of the roots of sets 2 and 8. Written by root_tables, not by hand.
 #![tactic(auto)]
 
-ghost use Rattle.std.specs.Prelude.{◌≡◌, length};
-ghost use Rattle.maths.specs.Root.{power_table};
+ghost use Rattle.std.specs.Prelude.{◌≡◌, ◌⊎◌};
 ghost use Rattle.sets.specs.Table.{set_of};
-ghost use Rattle.sets.specs.Derived.{transform_size_of, root_powers};
+ghost use Rattle.sets.specs.Derived.{root_powers};
 
 // The powers of 32904 modulo 84481.
-const POWERS2_FIRST: [u32; 768] = [
+static POWERS2_FIRST: [u32; 768] = [
     1, 32904, 49201, 301, 19827, 25326, 6120, 54257, 19836, 68019, 26524, 56966, 29317, 42510,
     81604, 38393, 38879, 63314, 66877, 44201, 49289, 23499, 40984, 51814, 61276, 1958, 51510,
     27218, 82472, 44487, 82442, 71139, 42589, 62109, 39146, 62658, 24508, 40087, 20795, 27061,
@@ -67,15 +66,8 @@ const POWERS2_FIRST: [u32; 768] = [
     33116, 12926, 39750, 83639, 4600, 52929,
 ];
 
-pub fn set2_first(out: &mut [u32])
-    requires { length out.old ≡ 768 }
-    ensures { out.new ≡ power_table 84481 32904 768 }
-{
-    calls::copy_in(out, 0, &POWERS2_FIRST);
-}
-
 // The powers of 68911 modulo 84481.
-const POWERS2_SECOND: [u32; 1280] = [
+static POWERS2_SECOND: [u32; 1280] = [
     1, 68911, 48911, 51945, 37444, 301, 44366, 22517, 6460, 34671, 6120, 6168, 19137, 1397, 44808,
     68019, 82467, 15529, 82573, 54729, 29317, 69634, 27774, 17059, 84115, 38393, 8546, 80836,
     65899, 58796, 66877, 37916, 1108, 67045, 41067, 23499, 7781, 80065, 74067, 26941, 61276, 61094,
@@ -173,15 +165,8 @@ const POWERS2_SECOND: [u32; 1280] = [
     8498, 67867, 83639, 15385, 43666, 23468, 68046,
 ];
 
-pub fn set2_second(out: &mut [u32])
-    requires { length out.old ≡ 1280 }
-    ensures { out.new ≡ power_table 84481 68911 1280 }
-{
-    calls::copy_in(out, 0, &POWERS2_SECOND);
-}
-
 // The powers of 5170 modulo 84481.
-const POWERS2_THIRD: [u32; 1536] = [
+static POWERS2_THIRD: [u32; 1536] = [
     1, 5170, 32904, 53427, 49201, 81360, 301, 35512, 19827, 30137, 25326, 74351, 6120, 44506,
     54257, 31770, 19836, 76667, 68019, 48308, 26524, 16417, 56966, 13454, 29317, 9976, 42510,
     41619, 81604, 79047, 38393, 45941, 38879, 24131, 63314, 53986, 66877, 57838, 44201, 82546,
@@ -297,29 +282,8 @@ const POWERS2_THIRD: [u32; 1536] = [
     48440, 33116, 51214, 12926, 2949, 39750, 49708, 83639, 39872, 4600, 42839, 52929, 8971,
 ];
 
-pub fn set2_third(out: &mut [u32])
-    requires { length out.old ≡ 1536 }
-    ensures { out.new ≡ power_table 84481 5170 1536 }
-{
-    calls::copy_in(out, 0, &POWERS2_THIRD);
-}
-
-// The powers of root number i of set 2.
-pub fn load_set2(i: usize, out: &mut [u32])
-    requires { length out.old ≡ transform_size_of (set_of 2) i }
-    ensures { out.new ≡ root_powers (set_of 2) i }
-{
-    if i == 1 {
-        set2_first(out);
-    } else if i == 2 {
-        set2_second(out);
-    } else {
-        set2_third(out);
-    }
-}
-
 // The powers of 13192 modulo 115201.
-const POWERS8_FIRST: [u32; 768] = [
+static POWERS8_FIRST: [u32; 768] = [
     1, 13192, 75354, 539, 83227, 65054, 60119, 46164, 43002, 32660, 114181, 22677, 93188, 26225,
     11597, 696, 80753, 29929, 29541, 95090, 3591, 24861, 104266, 92333, 36763, 96487, 655, 685,
     50842, 7442, 23612, 101201, 94404, 54758, 57266, 80115, 23106, 107707, 96811, 12426, 107970,
@@ -381,15 +345,8 @@ const POWERS8_FIRST: [u32; 768] = [
     36548, 25031, 42886,
 ];
 
-pub fn set8_first(out: &mut [u32])
-    requires { length out.old ≡ 768 }
-    ensures { out.new ≡ power_table 115201 13192 768 }
-{
-    calls::copy_in(out, 0, &POWERS8_FIRST);
-}
-
 // The powers of 4959 modulo 115201.
-const POWERS8_SECOND: [u32; 1280] = [
+static POWERS8_SECOND: [u32; 1280] = [
     1, 4959, 53868, 95494, 78636, 539, 23278, 4200, 91620, 106037, 60119, 105134, 74981, 77152,
     14247, 32660, 103535, 94409, 112568, 75867, 93188, 48081, 82810, 78426, 111159, 696, 110635,
     51803, 108048, 10181, 29541, 73348, 43175, 61367, 73112, 24861, 20629, 723, 14126, 8626, 36763,
@@ -490,15 +447,8 @@ const POWERS8_SECOND: [u32; 1280] = [
     30359, 97775, 100417, 69181,
 ];
 
-pub fn set8_second(out: &mut [u32])
-    requires { length out.old ≡ 1280 }
-    ensures { out.new ≡ power_table 115201 4959 1280 }
-{
-    calls::copy_in(out, 0, &POWERS8_SECOND);
-}
-
 // The powers of 5516 modulo 115201.
-const POWERS8_THIRD: [u32; 1536] = [
+static POWERS8_THIRD: [u32; 1536] = [
     1, 5516, 13192, 75241, 75354, 7456, 539, 93099, 83227, 4147, 65054, 101950, 60119, 67926,
     46164, 46414, 43002, 173, 32660, 93397, 114181, 18529, 22677, 93247, 93188, 113347, 26225,
     79845, 11597, 32497, 696, 37503, 80753, 66482, 29929, 5331, 29541, 53942, 95090, 6287, 3591,
@@ -618,23 +568,17 @@ const POWERS8_THIRD: [u32; 1536] = [
     87923, 102259, 36548, 112219, 25031, 60198, 42886, 51523,
 ];
 
-pub fn set8_third(out: &mut [u32])
-    requires { length out.old ≡ 1536 }
-    ensures { out.new ≡ power_table 115201 5516 1536 }
+// The powers of root number i of set 2 or 8.
+pub fn powers(set: usize, i: usize) -> &'static [u32]
+    requires { (set ≡ 2) ⊎ (set ≡ 8) }
+    ensures { result.now ≡ root_powers (set_of set) i }
 {
-    calls::copy_in(out, 0, &POWERS8_THIRD);
-}
-
-// The powers of root number i of set 8.
-pub fn load_set8(i: usize, out: &mut [u32])
-    requires { length out.old ≡ transform_size_of (set_of 8) i }
-    ensures { out.new ≡ root_powers (set_of 8) i }
-{
-    if i == 1 {
-        set8_first(out);
-    } else if i == 2 {
-        set8_second(out);
-    } else {
-        set8_third(out);
+    match (set, i) {
+        (2, 1) => &POWERS2_FIRST,
+        (2, 2) => &POWERS2_SECOND,
+        (2, _) => &POWERS2_THIRD,
+        (_, 1) => &POWERS8_FIRST,
+        (_, 2) => &POWERS8_SECOND,
+        _ => &POWERS8_THIRD,
     }
 }

@@ -1,13 +1,12 @@
 // The powers of the roots of sets 4 and 10. Written by root_tables, not by hand.
 #![tactic(auto)]
 
-ghost use Rattle.std.specs.Prelude.{◌≡◌, length};
-ghost use Rattle.maths.specs.Root.{power_table};
+ghost use Rattle.std.specs.Prelude.{◌≡◌, ◌⊎◌};
 ghost use Rattle.sets.specs.Table.{set_of};
-ghost use Rattle.sets.specs.Derived.{transform_size_of, root_powers};
+ghost use Rattle.sets.specs.Derived.{root_powers};
 
 // The powers of 146766 modulo 301057.
-const POWERS4_FIRST: [u32; 768] = [
+static POWERS4_FIRST: [u32; 768] = [
     1, 146766, 232520, 15142, 229055, 257282, 175787, 174170, 86464, 121817, 22820, 242052, 277832,
     228061, 83466, 262683, 175872, 4886, 281959, 204659, 224847, 133861, 166877, 280718, 207538,
     80133, 8173, 107430, 114176, 21139, 94089, 183698, 63147, 93914, 89493, 14842, 153577, 45449,
@@ -74,15 +73,8 @@ const POWERS4_FIRST: [u32; 768] = [
     278769, 164754, 290495,
 ];
 
-pub fn set4_first(out: &mut [u32])
-    requires { length out.old ≡ 768 }
-    ensures { out.new ≡ power_table 301057 146766 768 }
-{
-    calls::copy_in(out, 0, &POWERS4_FIRST);
-}
-
 // The powers of 168263 modulo 301057.
-const POWERS4_SECOND: [u32; 1792] = [
+static POWERS4_SECOND: [u32; 1792] = [
     1, 168263, 133718, 296939, 126180, 283586, 98732, 15142, 294012, 149631, 265100, 109838, 83221,
     251939, 175787, 199845, 258677, 151219, 128128, 208837, 167091, 121817, 129083, 135564, 219613,
     102868, 208183, 8894, 277832, 112742, 103462, 205481, 259395, 240196, 100469, 262683, 146174,
@@ -234,15 +226,8 @@ const POWERS4_SECOND: [u32; 1792] = [
     187854,
 ];
 
-pub fn set4_second(out: &mut [u32])
-    requires { length out.old ≡ 1792 }
-    ensures { out.new ≡ power_table 301057 168263 1792 }
-{
-    calls::copy_in(out, 0, &POWERS4_SECOND);
-}
-
 // The powers of 174 modulo 301057.
-const POWERS4_THIRD: [u32; 2048] = [
+static POWERS4_THIRD: [u32; 2048] = [
     1, 174, 30276, 150055, 218668, 115050, 148938, 24310, 15142, 226252, 230438, 55631, 45970,
     171298, 1209, 210366, 175787, 180181, 41566, 7116, 33956, 188261, 243258, 178912, 121817,
     122168, 183242, 273123, 257453, 240386, 281298, 174618, 277832, 173648, 109052, 8457, 267290,
@@ -415,29 +400,8 @@ const POWERS4_THIRD: [u32; 2048] = [
     81320,
 ];
 
-pub fn set4_third(out: &mut [u32])
-    requires { length out.old ≡ 2048 }
-    ensures { out.new ≡ power_table 301057 174 2048 }
-{
-    calls::copy_in(out, 0, &POWERS4_THIRD);
-}
-
-// The powers of root number i of set 4.
-pub fn load_set4(i: usize, out: &mut [u32])
-    requires { length out.old ≡ transform_size_of (set_of 4) i }
-    ensures { out.new ≡ root_powers (set_of 4) i }
-{
-    if i == 1 {
-        set4_first(out);
-    } else if i == 2 {
-        set4_second(out);
-    } else {
-        set4_third(out);
-    }
-}
-
 // The powers of 15791 modulo 430081.
-const POWERS10_FIRST: [u32; 768] = [
+static POWERS10_FIRST: [u32; 768] = [
     1, 15791, 338782, 359084, 107540, 204352, 24689, 210613, 403591, 165223, 165047, 396398,
     121944, 145067, 141591, 302443, 257989, 177067, 108416, 274676, 41831, 378986, 420892, 263879,
     288561, 388637, 141078, 373199, 215547, 41643, 420845, 381864, 278804, 284848, 247670, 230437,
@@ -504,15 +468,8 @@ const POWERS10_FIRST: [u32; 768] = [
     321478, 213055, 257923, 425104, 113016, 229587, 255568, 224265, 81661, 126013, 316577, 235944,
 ];
 
-pub fn set10_first(out: &mut [u32])
-    requires { length out.old ≡ 768 }
-    ensures { out.new ≡ power_table 430081 15791 768 }
-{
-    calls::copy_in(out, 0, &POWERS10_FIRST);
-}
-
 // The powers of 235435 modulo 430081.
-const POWERS10_SECOND: [u32; 1792] = [
+static POWERS10_SECOND: [u32; 1792] = [
     1, 235435, 369864, 689, 74178, 228344, 44640, 359084, 349451, 221209, 112301, 356460, 164327,
     390890, 24689, 110000, 92504, 237562, 95744, 83268, 249438, 165223, 170879, 260463, 297263,
     323518, 115230, 95651, 121944, 258566, 101146, 153621, 98440, 16472, 44943, 302443, 167102,
@@ -664,15 +621,8 @@ const POWERS10_SECOND: [u32; 1792] = [
     50167, 183223, 412786, 158583, 226914, 126013, 23113, 224343, 376676, 11860, 173248, 190921,
 ];
 
-pub fn set10_second(out: &mut [u32])
-    requires { length out.old ≡ 1792 }
-    ensures { out.new ≡ power_table 430081 235435 1792 }
-{
-    calls::copy_in(out, 0, &POWERS10_SECOND);
-}
-
 // The powers of 92 modulo 430081.
-const POWERS10_THIRD: [u32; 2048] = [
+static POWERS10_THIRD: [u32; 2048] = [
     1, 92, 8464, 348607, 245850, 253988, 142522, 209594, 359084, 349572, 334630, 250209, 224935,
     50132, 311334, 257382, 24689, 120983, 378411, 407332, 57497, 128752, 232997, 361755, 165223,
     147681, 254141, 156598, 214343, 365911, 117494, 57423, 121944, 36742, 369697, 35725, 276133,
@@ -846,23 +796,17 @@ const POWERS10_THIRD: [u32; 2048] = [
     302388, 294512,
 ];
 
-pub fn set10_third(out: &mut [u32])
-    requires { length out.old ≡ 2048 }
-    ensures { out.new ≡ power_table 430081 92 2048 }
+// The powers of root number i of set 4 or 10.
+pub fn powers(set: usize, i: usize) -> &'static [u32]
+    requires { (set ≡ 4) ⊎ (set ≡ 10) }
+    ensures { result.now ≡ root_powers (set_of set) i }
 {
-    calls::copy_in(out, 0, &POWERS10_THIRD);
-}
-
-// The powers of root number i of set 10.
-pub fn load_set10(i: usize, out: &mut [u32])
-    requires { length out.old ≡ transform_size_of (set_of 10) i }
-    ensures { out.new ≡ root_powers (set_of 10) i }
-{
-    if i == 1 {
-        set10_first(out);
-    } else if i == 2 {
-        set10_second(out);
-    } else {
-        set10_third(out);
+    match (set, i) {
+        (4, 1) => &POWERS4_FIRST,
+        (4, 2) => &POWERS4_SECOND,
+        (4, _) => &POWERS4_THIRD,
+        (_, 1) => &POWERS10_FIRST,
+        (_, 2) => &POWERS10_SECOND,
+        _ => &POWERS10_THIRD,
     }
 }

@@ -1,13 +1,12 @@
 // The powers of the roots of sets 3 and 9. Written by root_tables, not by hand.
 #![tactic(auto)]
 
-ghost use Rattle.std.specs.Prelude.{◌≡◌, length};
-ghost use Rattle.maths.specs.Root.{power_table};
+ghost use Rattle.std.specs.Prelude.{◌≡◌, ◌⊎◌};
 ghost use Rattle.sets.specs.Table.{set_of};
-ghost use Rattle.sets.specs.Derived.{transform_size_of, root_powers};
+ghost use Rattle.sets.specs.Derived.{root_powers};
 
 // The powers of 71157 modulo 86017.
-const POWERS3_FIRST: [u32; 768] = [
+static POWERS3_FIRST: [u32; 768] = [
     1, 71157, 13961, 12544, 81016, 82189, 26843, 59866, 65071, 48054, 30694, 35311, 68257, 13444,
     39651, 2590, 48216, 31850, 60551, 35977, 63452, 21634, 50306, 26587, 79278, 17752, 19419,
     20695, 69092, 77809, 84791, 68773, 1197, 18099, 24019, 48210, 34993, 62802, 46730, 7441, 44602,
@@ -67,15 +66,8 @@ const POWERS3_FIRST: [u32; 768] = [
     35156, 49098, 85931, 73722, 3592, 39437,
 ];
 
-pub fn set3_first(out: &mut [u32])
-    requires { length out.old ≡ 768 }
-    ensures { out.new ≡ power_table 86017 71157 768 }
-{
-    calls::copy_in(out, 0, &POWERS3_FIRST);
-}
-
 // The powers of 30077 modulo 86017.
-const POWERS3_SECOND: [u32; 1536] = [
+static POWERS3_SECOND: [u32; 1536] = [
     1, 30077, 71157, 112, 13961, 56020, 12544, 15326, 81016, 28656, 82189, 42007, 26843, 1349,
     59866, 81838, 65071, 81683, 48054, 62524, 30694, 48994, 35311, 83065, 68257, 84067, 13444,
     75288, 39651, 43439, 2590, 54045, 48216, 32029, 31850, 67138, 60551, 40503, 35977, 72386,
@@ -191,15 +183,8 @@ const POWERS3_SECOND: [u32; 1536] = [
     54199, 35156, 66048, 49098, 66707, 85931, 79905, 73722, 76385, 3592, 85249, 39437, 58236,
 ];
 
-pub fn set3_second(out: &mut [u32])
-    requires { length out.old ≡ 1536 }
-    ensures { out.new ≡ power_table 86017 30077 1536 }
-{
-    calls::copy_in(out, 0, &POWERS3_SECOND);
-}
-
 // The powers of 35007 modulo 86017.
-const POWERS3_THIRD: [u32; 1792] = [
+static POWERS3_THIRD: [u32; 1792] = [
     1, 35007, 5850, 70490, 73751, 1002, 68095, 12544, 11023, 9899, 57817, 19709, 10606, 34870,
     26843, 43193, 50525, 47121, 16838, 59382, 12835, 48054, 77926, 12344, 63017, 44137, 66605,
     64433, 68257, 6556, 12536, 75035, 49116, 9999, 31820, 2590, 6212, 12508, 41026, 57350, 14670,
@@ -335,29 +320,8 @@ const POWERS3_THIRD: [u32; 1792] = [
     70479, 32742, 22669, 66858, 61453,
 ];
 
-pub fn set3_third(out: &mut [u32])
-    requires { length out.old ≡ 1792 }
-    ensures { out.new ≡ power_table 86017 35007 1792 }
-{
-    calls::copy_in(out, 0, &POWERS3_THIRD);
-}
-
-// The powers of root number i of set 3.
-pub fn load_set3(i: usize, out: &mut [u32])
-    requires { length out.old ≡ transform_size_of (set_of 3) i }
-    ensures { out.new ≡ root_powers (set_of 3) i }
-{
-    if i == 1 {
-        set3_first(out);
-    } else if i == 2 {
-        set3_second(out);
-    } else {
-        set3_third(out);
-    }
-}
-
 // The powers of 4136 modulo 118273.
-const POWERS9_FIRST: [u32; 768] = [
+static POWERS9_FIRST: [u32; 768] = [
     1, 4136, 75184, 21307, 12367, 55976, 56475, 109698, 15700, 3323, 24260, 43856, 75907, 54810,
     83092, 85447, 9068, 12707, 42940, 72067, 21152, 80925, 111483, 65534, 85181, 91622, 1900,
     52382, 94089, 33934, 79246, 26973, 28889, 29174, 25204, 45231, 85803, 62208, 48513, 58760,
@@ -419,15 +383,8 @@ const POWERS9_FIRST: [u32; 768] = [
     58673, 93605, 42751,
 ];
 
-pub fn set9_first(out: &mut [u32])
-    requires { length out.old ≡ 768 }
-    ensures { out.new ≡ power_table 118273 4136 768 }
-{
-    calls::copy_in(out, 0, &POWERS9_FIRST);
-}
-
 // The powers of 75894 modulo 118273.
-const POWERS9_SECOND: [u32; 1536] = [
+static POWERS9_SECOND: [u32; 1536] = [
     1, 75894, 4136, 1042, 75184, 51884, 21307, 45002, 12367, 84843, 55976, 112930, 56475, 18403,
     109698, 65269, 15700, 53598, 3323, 37726, 24260, 32649, 43856, 86771, 75907, 44574, 54810,
     88730, 83092, 104434, 85447, 6028, 9068, 94478, 12707, 105289, 42940, 112391, 72067, 36286,
@@ -548,15 +505,8 @@ const POWERS9_SECOND: [u32; 1536] = [
     79458,
 ];
 
-pub fn set9_second(out: &mut [u32])
-    requires { length out.old ≡ 1536 }
-    ensures { out.new ≡ power_table 118273 75894 1536 }
-{
-    calls::copy_in(out, 0, &POWERS9_SECOND);
-}
-
 // The powers of 9282 modulo 118273.
-const POWERS9_THIRD: [u32; 1792] = [
+static POWERS9_THIRD: [u32; 1792] = [
     1, 9282, 52780, 17194, 44431, 108864, 69409, 21307, 19118, 43776, 61077, 34225, 113445, 11971,
     56475, 15014, 34354, 9820, 79030, 27314, 69509, 3323, 93106, 107354, 9803, 39509, 76238, 13757,
     75907, 16513, 110131, 2403, 69322, 41684, 39905, 85447, 98589, 24897, 106785, 50630, 49031,
@@ -696,23 +646,17 @@ const POWERS9_THIRD: [u32; 1792] = [
     76771, 111870, 58673, 73894, 18981, 73145, 44870, 44107, 58321,
 ];
 
-pub fn set9_third(out: &mut [u32])
-    requires { length out.old ≡ 1792 }
-    ensures { out.new ≡ power_table 118273 9282 1792 }
+// The powers of root number i of set 3 or 9.
+pub fn powers(set: usize, i: usize) -> &'static [u32]
+    requires { (set ≡ 3) ⊎ (set ≡ 9) }
+    ensures { result.now ≡ root_powers (set_of set) i }
 {
-    calls::copy_in(out, 0, &POWERS9_THIRD);
-}
-
-// The powers of root number i of set 9.
-pub fn load_set9(i: usize, out: &mut [u32])
-    requires { length out.old ≡ transform_size_of (set_of 9) i }
-    ensures { out.new ≡ root_powers (set_of 9) i }
-{
-    if i == 1 {
-        set9_first(out);
-    } else if i == 2 {
-        set9_second(out);
-    } else {
-        set9_third(out);
+    match (set, i) {
+        (3, 1) => &POWERS3_FIRST,
+        (3, 2) => &POWERS3_SECOND,
+        (3, _) => &POWERS3_THIRD,
+        (_, 1) => &POWERS9_FIRST,
+        (_, 2) => &POWERS9_SECOND,
+        _ => &POWERS9_THIRD,
     }
 }

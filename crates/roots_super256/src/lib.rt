@@ -1,13 +1,12 @@
 // The powers of the roots of sets 6 and 12. Written by root_tables, not by hand.
 #![tactic(auto)]
 
-ghost use Rattle.std.specs.Prelude.{◌≡◌, length};
-ghost use Rattle.maths.specs.Root.{power_table};
+ghost use Rattle.std.specs.Prelude.{◌≡◌, ◌⊎◌};
 ghost use Rattle.sets.specs.Table.{set_of};
-ghost use Rattle.sets.specs.Derived.{transform_size_of, root_powers};
+ghost use Rattle.sets.specs.Derived.{root_powers};
 
 // The powers of 1061167 modulo 1198081.
-const POWERS6_FIRST: [u32; 1280] = [
+static POWERS6_FIRST: [u32; 1280] = [
     1, 1061167, 268070, 675455, 626520, 844158, 627577, 1093861, 32370, 993520, 923298, 698181,
     535313, 761093, 6054, 194696, 694106, 154117, 1025715, 717067, 236307, 440807, 680777, 403460,
     598227, 1156087, 1173878, 1035577, 708486, 975961, 447657, 917300, 24787, 476155, 93864,
@@ -122,15 +121,8 @@ const POWERS6_FIRST: [u32; 1280] = [
     548482, 852532, 673258, 708247, 152139, 1075301, 26409, 46632,
 ];
 
-pub fn set6_first(out: &mut [u32])
-    requires { length out.old ≡ 1280 }
-    ensures { out.new ≡ power_table 1198081 1061167 1280 }
-{
-    calls::copy_in(out, 0, &POWERS6_FIRST);
-}
-
 // The powers of 186516 modulo 1198081.
-const POWERS6_SECOND: [u32; 3072] = [
+static POWERS6_SECOND: [u32; 3072] = [
     1, 186516, 738340, 976, 1129385, 573159, 952576, 45240, 1097438, 3320, 1023324, 15074, 844158,
     762751, 335252, 816561, 436675, 129839, 239671, 876045, 924359, 293101, 788167, 19391, 923298,
     82990, 954401, 181936, 726813, 586439, 253548, 105536, 879827, 658162, 1166251, 885156, 194696,
@@ -402,15 +394,8 @@ const POWERS6_SECOND: [u32; 3072] = [
     708247, 184473, 675910, 1154416, 333498, 743610, 513876, 814097, 924355, 745118, 230969, 15487,
 ];
 
-pub fn set6_second(out: &mut [u32])
-    requires { length out.old ≡ 3072 }
-    ensures { out.new ≡ power_table 1198081 186516 3072 }
-{
-    calls::copy_in(out, 0, &POWERS6_SECOND);
-}
-
 // The powers of 1169874 modulo 1198081.
-const POWERS6_THIRD: [u32; 3328] = [
+static POWERS6_THIRD: [u32; 3328] = [
     1, 1169874, 109065, 275553, 626057, 524141, 1072434, 201331, 1158504, 935028, 220338, 570262,
     55272, 844158, 695169, 359744, 447062, 722772, 514573, 190704, 195962, 445600, 28571, 406316,
     1085515, 234512, 923298, 418092, 788320, 241120, 233997, 1072931, 559424, 252083, 105554,
@@ -706,37 +691,14 @@ const POWERS6_THIRD: [u32; 3328] = [
     751628, 70380, 11557, 1087814, 82993, 66723, 129590,
 ];
 
-pub fn set6_third(out: &mut [u32])
-    requires { length out.old ≡ 3328 }
-    ensures { out.new ≡ power_table 1198081 1169874 3328 }
+// The powers of root number i of set 6 or 12.
+pub fn powers(set: usize, i: usize) -> &'static [u32]
+    requires { (set ≡ 6) ⊎ (set ≡ 12) }
+    ensures { result.now ≡ root_powers (set_of set) i }
 {
-    calls::copy_in(out, 0, &POWERS6_THIRD);
-}
-
-// The powers of root number i of set 6.
-pub fn load_set6(i: usize, out: &mut [u32])
-    requires { length out.old ≡ transform_size_of (set_of 6) i }
-    ensures { out.new ≡ root_powers (set_of 6) i }
-{
-    if i == 1 {
-        set6_first(out);
-    } else if i == 2 {
-        set6_second(out);
-    } else {
-        set6_third(out);
-    }
-}
-
-// The powers of root number i of set 12.
-pub fn load_set12(i: usize, out: &mut [u32])
-    requires { length out.old ≡ transform_size_of (set_of 12) i }
-    ensures { out.new ≡ root_powers (set_of 12) i }
-{
-    if i == 1 {
-        set6_first(out);
-    } else if i == 2 {
-        set6_second(out);
-    } else {
-        set6_third(out);
+    match i {
+        1 => &POWERS6_FIRST,
+        2 => &POWERS6_SECOND,
+        _ => &POWERS6_THIRD,
     }
 }

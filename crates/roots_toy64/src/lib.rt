@@ -1,13 +1,12 @@
 // The powers of the roots of sets 1 and 7. Written by root_tables, not by hand.
 #![tactic(auto)]
 
-ghost use Rattle.std.specs.Prelude.{◌≡◌, length};
-ghost use Rattle.maths.specs.Root.{power_table};
+ghost use Rattle.std.specs.Prelude.{◌≡◌, ◌⊎◌};
 ghost use Rattle.sets.specs.Table.{set_of};
-ghost use Rattle.sets.specs.Derived.{transform_size_of, root_powers};
+ghost use Rattle.sets.specs.Derived.{root_powers};
 
 // The powers of 56644 modulo 240641.
-const POWERS1_FIRST: [u32; 512] = [
+static POWERS1_FIRST: [u32; 512] = [
     1, 56644, 76283, 24456, 156068, 128016, 103051, 232748, 19886, 222704, 203515, 237196, 21271,
     225678, 214071, 178375, 79833, 175421, 239593, 75415, 188869, 118699, 76616, 116910, 50361,
     90070, 95239, 27978, 164847, 745, 87605, 39559, 171645, 41057, 78084, 8516, 135740, 135969,
@@ -53,15 +52,8 @@ const POWERS1_FIRST: [u32; 512] = [
     207176, 178338, 149774,
 ];
 
-pub fn set1_first(out: &mut [u32])
-    requires { length out.old ≡ 512 }
-    ensures { out.new ≡ power_table 240641 56644 512 }
-{
-    calls::copy_in(out, 0, &POWERS1_FIRST);
-}
-
 // The powers of 238 modulo 240641.
-const POWERS1_SECOND: [u32; 1024] = [
+static POWERS1_SECOND: [u32; 1024] = [
     1, 238, 56644, 5376, 76283, 107279, 24456, 45144, 156068, 85470, 128016, 147042, 103051,
     221397, 232748, 46594, 19886, 160689, 222704, 62532, 203515, 67729, 237196, 142654, 21271,
     9037, 225678, 48421, 214071, 173647, 178375, 100434, 79833, 230256, 175421, 119305, 239593,
@@ -148,15 +140,8 @@ const POWERS1_SECOND: [u32; 1024] = [
     157243, 124479, 27159, 207176, 217124, 178338, 91628, 149774, 31344,
 ];
 
-pub fn set1_second(out: &mut [u32])
-    requires { length out.old ≡ 1024 }
-    ensures { out.new ≡ power_table 240641 238 1024 }
-{
-    calls::copy_in(out, 0, &POWERS1_SECOND);
-}
-
 // The powers of 35772 modulo 240641.
-const POWERS1_THIRD: [u32; 1280] = [
+static POWERS1_THIRD: [u32; 1280] = [
     1, 35772, 147787, 235076, 179568, 76283, 167177, 86153, 216470, 218742, 156068, 233937, 103589,
     195590, 8405, 103051, 201534, 151170, 209329, 90991, 19886, 27196, 184390, 29270, 17449,
     203515, 26407, 115279, 136212, 76696, 21271, 240011, 83894, 22257, 136976, 214071, 69910,
@@ -264,29 +249,8 @@ const POWERS1_THIRD: [u32; 1280] = [
     124479, 41724, 95446, 79804, 24505, 178338, 114026, 73122, 193155, 15627,
 ];
 
-pub fn set1_third(out: &mut [u32])
-    requires { length out.old ≡ 1280 }
-    ensures { out.new ≡ power_table 240641 35772 1280 }
-{
-    calls::copy_in(out, 0, &POWERS1_THIRD);
-}
-
-// The powers of root number i of set 1.
-pub fn load_set1(i: usize, out: &mut [u32])
-    requires { length out.old ≡ transform_size_of (set_of 1) i }
-    ensures { out.new ≡ root_powers (set_of 1) i }
-{
-    if i == 1 {
-        set1_first(out);
-    } else if i == 2 {
-        set1_second(out);
-    } else {
-        set1_third(out);
-    }
-}
-
 // The powers of 69169 modulo 471041.
-const POWERS7_FIRST: [u32; 512] = [
+static POWERS7_FIRST: [u32; 512] = [
     1, 69169, 458165, 118487, 455985, 63187, 263205, 363036, 112415, 159348, 53453, 89748, 401114,
     339366, 220701, 170741, 44277, 358272, 319999, 265282, 359544, 218300, 373445, 341888, 379749,
     199298, 228497, 70320, 465755, 371523, 232632, 162248, 451128, 432628, 153484, 12738, 228052,
@@ -332,15 +296,8 @@ const POWERS7_FIRST: [u32; 512] = [
     207231, 183409, 140909, 225290, 105648, 307479, 42760,
 ];
 
-pub fn set7_first(out: &mut [u32])
-    requires { length out.old ≡ 512 }
-    ensures { out.new ≡ power_table 471041 69169 512 }
-{
-    calls::copy_in(out, 0, &POWERS7_FIRST);
-}
-
 // The powers of 263 modulo 471041.
-const POWERS7_SECOND: [u32; 1024] = [
+static POWERS7_SECOND: [u32; 1024] = [
     1, 263, 69169, 291889, 458165, 381940, 118487, 73375, 455985, 279641, 63187, 131746, 263205,
     450929, 363036, 328186, 112415, 360603, 159348, 456916, 53453, 397950, 89748, 51674, 401114,
     450839, 339366, 226509, 220701, 106320, 170741, 155988, 44277, 339867, 358272, 17336, 319999,
@@ -429,15 +386,8 @@ const POWERS7_SECOND: [u32; 1024] = [
     318966, 42760, 411937,
 ];
 
-pub fn set7_second(out: &mut [u32])
-    requires { length out.old ≡ 1024 }
-    ensures { out.new ≡ power_table 471041 263 1024 }
-{
-    calls::copy_in(out, 0, &POWERS7_SECOND);
-}
-
 // The powers of 327393 modulo 471041.
-const POWERS7_THIRD: [u32; 1280] = [
+static POWERS7_THIRD: [u32; 1280] = [
     1, 327393, 325858, 378350, 431862, 458165, 304682, 285620, 342463, 454934, 455985, 215057,
     245008, 332254, 135692, 263205, 176107, 309610, 362899, 391918, 112415, 37642, 352664, 39196,
     397106, 53453, 22797, 404617, 268256, 13199, 401114, 395412, 336009, 79397, 95477, 220701,
@@ -547,23 +497,17 @@ const POWERS7_THIRD: [u32; 1280] = [
     305263, 200389, 307479, 300137, 302954, 270757, 153834,
 ];
 
-pub fn set7_third(out: &mut [u32])
-    requires { length out.old ≡ 1280 }
-    ensures { out.new ≡ power_table 471041 327393 1280 }
+// The powers of root number i of set 1 or 7.
+pub fn powers(set: usize, i: usize) -> &'static [u32]
+    requires { (set ≡ 1) ⊎ (set ≡ 7) }
+    ensures { result.now ≡ root_powers (set_of set) i }
 {
-    calls::copy_in(out, 0, &POWERS7_THIRD);
-}
-
-// The powers of root number i of set 7.
-pub fn load_set7(i: usize, out: &mut [u32])
-    requires { length out.old ≡ transform_size_of (set_of 7) i }
-    ensures { out.new ≡ root_powers (set_of 7) i }
-{
-    if i == 1 {
-        set7_first(out);
-    } else if i == 2 {
-        set7_second(out);
-    } else {
-        set7_third(out);
+    match (set, i) {
+        (1, 1) => &POWERS1_FIRST,
+        (1, 2) => &POWERS1_SECOND,
+        (1, _) => &POWERS1_THIRD,
+        (_, 1) => &POWERS7_FIRST,
+        (_, 2) => &POWERS7_SECOND,
+        _ => &POWERS7_THIRD,
     }
 }

@@ -1,6 +1,6 @@
-//! Writes the crates of root powers, crates/roots_*: for each pair of modulus and root a const table and a function that copies it
-//! out, whose contract says that these are the powers of the root; for each set a function that picks one of its three tables; and
-//! the proofs of both. With `--check` it writes nothing, and fails where a file differs from what it would write.
+//! Writes the crates of root powers, crates/roots_*: for each pair of modulus and root a table, in each crate a function that hands
+//! out the one that is asked for, whose contract says that these are the powers of the root, and the proof of it. With `--check` it
+//! writes nothing, and fails where a file differs from what it would write.
 //! It is run from the repository's root.
 
 use comparison::parameters::{powers, set, Set};
@@ -10,104 +10,106 @@ const LEVELS: [&str; 6] = ["toy64", "lite96", "std128", "med160", "hi192", "supe
 const ORDINALS: [&str; 3] = ["first", "second", "third"];
 const LONGEST_LINE: usize = 99;
 
-const SOURCE: &str = "\
-// The powers of the roots of SETS. Written by root_tables, not by hand.
-#![tactic(auto)]
-
-ghost use Rattle.std.specs.Prelude.{◌≡◌, length};
-ghost use Rattle.maths.specs.Root.{power_table};
-ghost use Rattle.sets.specs.Table.{set_of};
-ghost use Rattle.sets.specs.Derived.{transform_size_of, root_powers};
-";
-
 const TABLE: &str = "
 // The powers of ROOT modulo MODULUS.
-const POWERS_NAME: [u32; SIZE] = [ENTRIES];
+static POWERS_NAME: [u32; SIZE] = [ENTRIES];
+";
 
-pub fn setOWNER_ORDINAL(out: &mut [u32])
-    requires { length out.old ≡ SIZE }
-    ensures { out.new ≡ power_table MODULUS ROOT SIZE }
+const BENCH: &str = "\
+// The powers of the roots of set 0. Written by root_tables, not by hand.
+#![tactic(auto)]
+
+ghost use Rattle.std.specs.Prelude.{◌≡◌};
+ghost use Rattle.maths.specs.Root.{power_table};
+TABLES
+// The powers of the root of set 0, of which it has one.
+pub fn powers() -> &'static [u32]
+    ensures { result.now ≡ power_table MODULUS ROOT SIZE }
 {
-    calls::copy_in(out, 0, &POWERS_NAME);
+    &POWERS_NAME
 }
 ";
 
-const TABLE_PROOF: &str = "\
+const BENCH_PROOF: &str = "\
 -- The table passes the test of recurrence, so it holds the powers of its root. Written by root_tables, not by hand.
 -- Assumes nothing.
-use mathlib.Core.Path.{refl, sym, ◌∙◌}
+use mathlib.Core.Path.{refl}
 use lib.Dec.{lit<}
 use Rattle.maths.specs.Root.{continues, is_power_table}
 use Rattle.maths.proofs.PowerTable.{power_table_lem}
-use Rattle.calls.proofs.Region.{over_whole}
-use Rattle.CRATE.proofs.setOWNER_ORDINAL.Goals as goal
+use Rattle.roots_bench.proofs.powers.Goals as goal
 
 pub returns : goal.returns
 unfolding continues is_power_table
-returns c =
-    c.copy_in.ensures
-    ∙ over_whole _ _ (sym c.requires)
-    ∙ power_table_lem MODULUS ROOT SIZE _ (lit< tt) refl
+returns c = power_table_lem MODULUS ROOT SIZE _ (lit< tt) refl
 ";
 
-const LOADER: &str = "
-// The powers of root number i of set NUMBER.
-pub fn load_setNUMBER(i: usize, out: &mut [u32])
-    requires { length out.old ≡ transform_size_of (set_of NUMBER) i }
-    ensures { out.new ≡ root_powers (set_of NUMBER) i }
+const LEVEL: &str = "\
+// The powers of the roots of sets ENCRYPTION and EXCHANGE. Written by root_tables, not by hand.
+#![tactic(auto)]
+
+ghost use Rattle.std.specs.Prelude.{◌≡◌, ◌⊎◌};
+ghost use Rattle.sets.specs.Table.{set_of};
+ghost use Rattle.sets.specs.Derived.{root_powers};
+TABLES
+// The powers of root number i of set ENCRYPTION or EXCHANGE.
+pub fn powers(set: usize, i: usize) -> &'static [u32]
+    requires { (set ≡ ENCRYPTION) ⊎ (set ≡ EXCHANGE) }
+    ensures { result.now ≡ root_powers (set_of set) i }
 {
-    if i == 1 {
-        setOWNER_first(out);
-    } else if i == 2 {
-        setOWNER_second(out);
-    } else {
-        setOWNER_third(out);
-    }
+    match MATCHED {
+ARMS    }
 }
 ";
 
-const LOADER_PROOF: &str = "\
--- Each branch copies out the table of its root. Written by root_tables, not by hand.
+const LEVEL_PROOF: &str = "\
+-- Each table passes the test of recurrence, so it holds the powers of its root. Written by root_tables, not by hand.
 -- Assumes nothing.
-use mathlib.Core.Path.{sym, ◌∙◌}
+use mathlib.Core.Path.{◌≡◌, refl, sym, ap, ◌∙◌}
+use mathlib.Core.List.{List}
+use mathlib.Core.Logic.{◌⊎◌, inl, inr}
+FALSEuse Prim.Native.Nat.{ℕ}
+TACTICuse lib.Dec.{lit<}
+use Rattle.maths.specs.Root.{continues, is_power_table}
+use Rattle.maths.proofs.PowerTable.{power_table_lem}
 use Rattle.sets.specs.Table.{none, table, set_of}
-use Rattle.sets.proofs.Transforms.{size_first, size_second, size_third, powers_first, powers_second, powers_third}
-use Rattle.CRATE.proofs.load_setNUMBER.Goals as goal
+use Rattle.sets.specs.Derived.{UNFOLDEDroot_powers}
+use Rattle.sets.proofs.Transforms.{powers_first, powers_second, powers_third}
+use Rattle.CRATE.proofs.powers.Goals as goal
+";
 
-pub setOWNER_first-requires : goal.setOWNER_first-requires
-unfolding none table set_of
-setOWNER_first-requires c =
-    c.requires ∙ size_first (set_of NUMBER) c.args.i c.if-i-eq1.true
+const SERVED: &str = "
+module _ {set k : ℕ} (i : ℕ) (e : set ≡ k) where
+  -- the powers of set k are those of the set that is asked for
+  served : {out : List ℕ} → out ≡ root_powers (set_of k) i → out ≡ root_powers (set_of set) i
+  served h = h ∙ sym (ap (λ (s : ℕ). root_powers (set_of s) i) e)
+";
 
-pub setOWNER_second-requires : goal.setOWNER_second-requires
-unfolding none table set_of
-setOWNER_second-requires c =
-    c.requires
-    ∙ size_second (set_of NUMBER) c.args.i c.if-i-eq2.true
+const OTHER: &str = "
+-- a set that is not the first of the two is the second
+other : {set a b : ℕ} → (set ≡ a) ⊎ (set ≡ b) → (set ≡ a → ⊥) → set ≡ b
+other (inl e) n = absurd (n e)
+other (inr e) n = e
+";
 
-pub setOWNER_third-requires : goal.setOWNER_third-requires
-unfolding none table set_of
-setOWNER_third-requires c =
-    c.requires
-    ∙ size_third (set_of NUMBER) c.args.i c.if-i-eq1.false c.if-i-eq2.false
+const EITHER: &str = "
+-- both sets have the same roots
+same : (i : ℕ) → root_powers (set_of ENCRYPTION) i ≡ root_powers (set_of EXCHANGE) i
+unfolding none table set_of transform_size_of transform_root root_powers
+same i = refl
 
-pub returns-then-i-eq1 : goal.returns-then-i-eq1
-unfolding none table set_of
-returns-then-i-eq1 c =
-    c.setOWNER_first.ensures
-    ∙ sym (powers_first (set_of NUMBER) c.args.i c.if-i-eq1.true)
+either : {set : ℕ} (i : ℕ) → (set ≡ ENCRYPTION) ⊎ (set ≡ EXCHANGE)
+    → {out : List ℕ} → out ≡ root_powers (set_of ENCRYPTION) i → out ≡ root_powers (set_of set) i
+either i (inl e) h = served i e h
+either i (inr e) h = served i e (h ∙ same i)
+";
 
-pub returns-then-i-eq2 : goal.returns-then-i-eq2
-unfolding none table set_of
-returns-then-i-eq2 c =
-    c.setOWNER_second.ensures
-    ∙ sym (powers_second (set_of NUMBER) c.args.i c.if-i-eq2.true)
-
-pub returns-else-i-eq2 : goal.returns-else-i-eq2
-unfolding none table set_of
-returns-else-i-eq2 c =
-    c.setOWNER_third.ensures
-    ∙ sym (powers_third (set_of NUMBER) c.args.i c.if-i-eq1.false c.if-i-eq2.false)
+const ANSWER: &str = "
+pub returns-POINT : goal.returns-POINT
+unfolding continues is_power_table none table set_of
+returns-POINT c =
+    OF_SET
+    (power_table_lem MODULUS ROOT SIZE _ (lit< tt) refl ∙ sym (powers_ORDINAL (set_of OWNER) c.args.i NUMBER_FACT))
 ";
 
 /// A file of the repository and its text.
@@ -143,9 +145,8 @@ fn lines(numbers: &[String]) -> Vec<String> {
 }
 
 /// What the templates say of root number i + 1 of a set.
-fn words(crate_name: &str, s: &Set, i: usize) -> Vec<(&'static str, String)> {
+fn words(s: &Set, i: usize) -> Vec<(&'static str, String)> {
     vec![
-        ("CRATE", crate_name.to_string()),
         ("POWERS_NAME", format!("POWERS{}_{}", s.number, ORDINALS[i].to_uppercase())),
         ("OWNER", s.number.to_string()),
         ("ORDINAL", ORDINALS[i].to_string()),
@@ -156,50 +157,83 @@ fn words(crate_name: &str, s: &Set, i: usize) -> Vec<(&'static str, String)> {
     ]
 }
 
-/// The tables of a set with their proofs: source text, and the proof files.
-fn tables(crate_name: &str, s: &Set, roots: usize) -> (String, Vec<Generated>) {
-    let folder = Path::new("crates").join(crate_name).join("proofs");
-    let all: Vec<_> = (0..roots).map(|i| words(crate_name, s, i)).collect();
-    let source = all.iter().map(|w| fill(TABLE, w)).collect();
-    let proof = |(i, w): (usize, &Vec<_>)| Generated {
-        path: folder.join(format!("set{}_{}", s.number, ORDINALS[i])).join("Answers.antt"),
-        text: fill(TABLE_PROOF, w),
-    };
-    (source, all.iter().enumerate().map(proof).collect())
+/// The source and the proof of a crate.
+fn written(crate_name: &str, source: String, proof: String) -> [Generated; 2] {
+    let folder = Path::new("crates").join(crate_name);
+    [
+        Generated { path: folder.join("src/lib.rt"), text: source },
+        Generated { path: folder.join("proofs/powers/Answers.antt"), text: proof },
+    ]
 }
 
 /// The crate of Bench: one table, since its three roots are one.
-fn bench() -> Vec<Generated> {
-    let s = set(0).unwrap();
-    let (source, mut files) = tables("roots_bench", &s, 1);
-    let heading: String = SOURCE.lines().filter(|line| !line.contains(".sets.")).map(|line| format!("{line}\n")).collect();
-    let text = fill(&heading, &[("SETS", "set 0".to_string())]) + &source;
-    files.push(Generated { path: PathBuf::from("crates/roots_bench/src/lib.rt"), text });
-    files
+fn bench() -> [Generated; 2] {
+    let w = words(&set(0).unwrap(), 0);
+    let source = fill(&BENCH.replace("TABLES", TABLE), &w);
+    written("roots_bench", source, fill(BENCH_PROOF, &w))
+}
+
+/// An arm of the match on a set and a number: its pattern, the name of the point where it returns, and what says its set and its number.
+struct Arm {
+    pattern: String,
+    point: String,
+    of_set: String,
+    number_fact: String,
+}
+
+/// Both sets of a level have the same roots, so that the match is on the number alone.
+fn shared_arm(i: usize) -> Arm {
+    let (pattern, point, number_fact) = match i {
+        2 => ("_".to_string(), "in_default".to_string(), "(λ e. omega arith) (λ e. omega arith)".to_string()),
+        _ => ((i + 1).to_string(), format!("in-{}", i + 1), format!("c.in-{}.is", i + 1)),
+    };
+    Arm { pattern, point, of_set: "either c.args.i c.requires".to_string(), number_fact }
+}
+
+/// The arm of root number i + 1 of the first or the second set of a level.
+fn own_arm(first: bool, number: usize, i: usize) -> Arm {
+    let set = if first { number.to_string() } else { "_".to_string() };
+    let root = if i == 2 { "_".to_string() } else { (i + 1).to_string() };
+    let pattern = if !first && i == 2 { "_".to_string() } else { format!("({set}, {root})") };
+    let start = if first { format!("in-{number}") } else { "in_default".to_string() };
+    let point = match i {
+        2 if first => format!("{start}-default"),
+        2 => start,
+        _ => format!("{start}-eq{}", i + 1),
+    };
+    let set_fact = if first { format!("c.{point}.is-0") } else { format!("(other c.requires c.{point}.is-0.1)") };
+    let number_fact = if i == 2 { format!("c.{point}.is-1.0.1 c.{point}.is-1.1") } else { format!("c.{point}.is-1") };
+    Arm { pattern, point, of_set: format!("served c.args.i {set_fact}"), number_fact }
 }
 
 /// The crate of one security level: the tables of its encryption set and of its exchange set, which may share them.
-fn level(i: usize) -> Vec<Generated> {
+fn level(i: usize) -> [Generated; 2] {
     let crate_name = format!("roots_{}", LEVELS[i]);
     let pair = [set(i + 1).unwrap(), set(i + 7).unwrap()];
     let shared = pair[0].q == pair[1].q && pair[0].roots == pair[1].roots;
-    let mut source = fill(SOURCE, &[("SETS", format!("sets {} and {}", i + 1, i + 7))]);
-    let mut files = Vec::new();
-    for s in pair {
-        let owner = if shared { pair[0] } else { s };
-        if owner == s {
-            let (text, proofs) = tables(&crate_name, &s, 3);
-            source += &text;
-            files.extend(proofs);
-        }
-        let mut w = vec![("NUMBER", s.number.to_string())];
-        w.extend(words(&crate_name, &owner, 0));
-        source += &fill(LOADER, &w);
-        let path = Path::new("crates").join(&crate_name).join(format!("proofs/load_set{}/Answers.antt", s.number));
-        files.push(Generated { path, text: fill(LOADER_PROOF, &w) });
+    let owners = if shared { &pair[..1] } else { &pair[..] };
+    let (mut tables, mut arms, mut answers) = (String::new(), String::new(), String::new());
+    for (s, j) in owners.iter().flat_map(|s| (0..ORDINALS.len()).map(move |j| (s, j))) {
+        let arm = if shared { shared_arm(j) } else { own_arm(*s == pair[0], s.number, j) };
+        let mut w = words(s, j);
+        w.extend([("POINT", arm.point), ("OF_SET", arm.of_set), ("NUMBER_FACT", arm.number_fact)]);
+        tables += &fill(TABLE, &w);
+        arms += &format!("        {} => &{},\n", arm.pattern, w[0].1);
+        answers += &fill(ANSWER, &w);
     }
-    files.push(Generated { path: Path::new("crates").join(&crate_name).join("src/lib.rt"), text: source });
-    files
+    let w = [
+        ("CRATE", crate_name.clone()),
+        ("ENCRYPTION", pair[0].number.to_string()),
+        ("EXCHANGE", pair[1].number.to_string()),
+        ("MATCHED", if shared { "i" } else { "(set, i)" }.to_string()),
+        ("TABLES", tables),
+        ("ARMS", arms),
+        ("FALSE", if shared { "" } else { "use Prim.{⊥}\n" }.to_string()),
+        ("TACTIC", if shared { "use native.Mathlib.Omega.{arith}\n" } else { "" }.to_string()),
+        ("UNFOLDED", if shared { "transform_size_of, transform_root, " } else { "" }.to_string()),
+    ];
+    let lemmas = if shared { EITHER } else { OTHER };
+    written(&crate_name, fill(LEVEL, &w), fill(&[LEVEL_PROOF, SERVED, lemmas, &answers].concat(), &w))
 }
 
 fn main() {

@@ -1,24 +1,19 @@
--- After j turns the last j numbers of a stand in place, last one first.
+-- The numbers of a are copied to the front, and turned round there.
 -- Assumes nothing.
-use mathlib.Core.Path.{sym}
+use mathlib.Core.Path.{◌≡◌, ap, sym, ◌∙◌}
+use mathlib.Core.List.{reverse}
 use Prim.Native.Nat.{◌-◌}
 use native.Mathlib.Nat.{zero-add}
-use native.Mathlib.Omega.{arith}
 use lib.ListN.{length}
-use Rattle.maths.proofs.Vector.{tabulate_length, tabulate_at}
-use Rattle.maths.proofs.Product.{reversed}
-use Rattle.calls.proofs.Filled.{filled_none, filled_more, filled_all}
+use Rattle.std.proofs.lemmas.List.{length-reverse, get_or-reverse}
+use Rattle.maths.specs.Vector.{at, tabulate}
+use Rattle.maths.proofs.Vector.{tabulate_unique, tabulate_length}
+use Rattle.calls.proofs.Region.{over_lent}
 use Rattle.ntt_middle_checks.proofs.load_reversed.Goals as goal
 
-pub loop-j-init : goal.loop-j-init
-loop-j-init c = filled_none (tabulate_length _ _) (omega arith)
-
-pub loop-j-preserved : goal.loop-j-preserved
-loop-j-preserved c =
-    let a = c.args.a.now in
-    let turn = c.loop-j in
-    filled_more 0 turn.invariant c.loop-j-test.true (sym (zero-add turn.j))
-    (sym (tabulate_at (length a) (reversed a) turn.j c.loop-j-test.true))
-
 pub returns : goal.returns
-returns c = filled_all c.loop-j.invariant c.loop-j-test.false
+returns c =
+    let a = c.args.a.now in
+    let back : c.reverse.new.self ≡ tabulate (length a) (λ j. at a (length a - 1 - j)) =
+    c.reverse.ensures.after ∙ ap reverse c.copy_from_slice.ensures.after ∙ tabulate_unique (length a) _ (reverse a) (length-reverse a) (λ i h. get_or-reverse a i 0 h) in
+    rw back (over_lent c.args.x.now 0 _ (length a) (sym (zero-add _ ∙ tabulate_length (length a) _)))

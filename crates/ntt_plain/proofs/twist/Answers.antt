@@ -1,7 +1,7 @@
 -- `ntt_plain::twist` meets its contract: after i turns the first i numbers are multiplied, and the others are as they were.
 -- Assumes nothing.
 use mathlib.Core.Path.{sym}
-use Prim.Native.Nat.{◌-◌, ◌<◌}
+use Prim.Native.Nat.{◌<◌}
 use native.Mathlib.Omega.{arith}
 use lib.ListN.{length}
 use Rattle.calls.proofs.Written.{written_none}

@@ -1,7 +1,7 @@
 -- `ntt_products::accumulate` meets its contract: after j turns the first j products are added, and the other numbers are as they were.
 -- Assumes nothing.
 use mathlib.Core.Path.{refl, sym, ◌∙◌}
-use Prim.Native.Nat.{◌-◌, ◌<◌}
+use Prim.Native.Nat.{◌<◌}
 use native.Mathlib.Nat.{zero-add, mod-lt}
 use native.Mathlib.Omega.{arith}
 use lib.ListN.{length}

@@ -1,6 +1,5 @@
 -- `ntt_products::accumulate` meets its contract: after j turns the first j products are added, and the other numbers are as they were.
 -- Assumes nothing.
-use Prim.Native.Nat.{◌-◌}
 use lib.ListN.{length}
 use Rattle.calls.proofs.Filled.{Filled}
 use Rattle.ntt_products.specs.Stored.{unscaled, accumulated}
@@ -8,6 +7,3 @@ use Rattle.ntt_products.proofs.accumulate.Given as goal
 
 abbrev pub invariant-loop-j : goal.invariant-loop-j
 invariant-loop-j l = Filled l.initial.total 0 (length l.initial.total) (accumulated l.q l.initial.total (unscaled l.q l.x) l.y) l.j l.total
-
-abbrev pub decreases-loop-j : goal.decreases-loop-j
-decreases-loop-j l = length l.initial.total - l.j

@@ -1,6 +1,5 @@
 -- `ntt_products::multiply` meets its contract: after j turns the first j numbers are products, and the others are as they were.
 -- Assumes nothing.
-use Prim.Native.Nat.{◌-◌}
 use lib.ListN.{length}
 use Rattle.calls.proofs.Filled.{Filled}
 use Rattle.ntt_products.specs.Stored.{products}
@@ -8,6 +7,3 @@ use Rattle.ntt_products.proofs.multiply.Given as goal
 
 abbrev pub invariant-loop-j : goal.invariant-loop-j
 invariant-loop-j l = Filled l.initial.x 0 (length l.initial.x) (products l.q l.initial.x l.y) l.j l.x
-
-abbrev pub decreases-loop-j : goal.decreases-loop-j
-decreases-loop-j l = length l.initial.x - l.j
