@@ -78,11 +78,9 @@ pub fn encrypt(sub: &[u8], table: &[u32], keys: &[u32], block: [u32; 4]) -> [u32
     ensures { columns result ≡ cipher (schedule keys.now) (columns block) }
 {
     let mut s = add_key(block, round_key(keys, 0));
-    let mut n: usize = 0;
-    while n < 13 {
-        let t = round(table, s, round_key(keys, n + 1));
+    for n in 1..14 {
+        let t = round(table, s, round_key(keys, n));
         s = t;
-        n += 1;
     }
     last_round(sub, s, round_key(keys, 14))
 }

@@ -54,11 +54,8 @@ pub fn expand(sub: &[u8], key: &[u8]) -> [u32; 60]
     ensures { schedule result ≡ key_expansion key.now }
 {
     let mut w = [0u32; 60];
-    let mut i: usize = 0;
-    while i < 60 {
-        let v = next_word(sub, key, &w, i);
-        w[i] = v;
-        i += 1;
+    for i in 0..60 {
+        w[i] = next_word(sub, key, &w, i);
     }
     w
 }

@@ -74,10 +74,8 @@ pub fn round_table(sub: &[u8]) -> [u32; 256]
     ensures { RoundTable result }
 {
     let mut table = [0u32; 256];
-    let mut i: usize = 0;
-    while i < 256 {
-        table[i] = mixed_byte(sub[i]);
-        i += 1;
+    for (i, entry) in table.iter_mut().enumerate() {
+        *entry = mixed_byte(sub[i]);
     }
     table
 }

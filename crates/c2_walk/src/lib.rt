@@ -42,9 +42,7 @@ pub fn fill(
     requires { WalkReady q k by half count rows.now (length c2.old) }
     ensures { c2.new ≡ finished q by half count (length c2.old) rows.now message.now }
 {
-    let mut j: usize = 0;
-    while j < c2.len() {
+    for j in 0..c2.len() {
         finish_place(c2, j, rows, message, by, half, count, q, k);
-        j += 1;
     }
 }

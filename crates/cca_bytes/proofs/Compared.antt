@@ -2,15 +2,13 @@
 -- Assumes nothing.
 use mathlib.Core.Path.{◌≡◌, refl, sym, ap, ◌∙◌}
 use mathlib.Core.Bool.{Bool, true, false, ◌&&◌}
-use mathlib.Core.List.{List, []}
-use Prim.Native.Nat.{ℕ, ◌+◌, ◌*◌, ◌≤◌, ◌<◌}
-use native.Mathlib.Numerals.{add-one}
+use mathlib.Core.List.{List, [], ◌∷◌}
+use Prim.Native.Nat.{ℕ, ◌+◌, ◌*◌, ◌≤◌}
 use native.Mathlib.Omega.{arith}
 use borrow.Author.Tests.{eqb-true, eqb-false, eq-eqb, ne_eqb}
 use lib.Bits.{bit_or, bit_xor, bit_and, or_zero_l, or_add_and, xor_add_and, xor_self, and_le_l, and_le_r}
 use lib.Dec.{eqb}
-use lib.ListN.{length, get_or, drop}
-use lib.Seq.{drop-cons, drop-length}
+use lib.ListN.{length}
 use Rattle.scheme.specs.Exchange.{same}
 
 -- a sum that is no larger than its second part
@@ -56,42 +54,39 @@ and_true : (a : Bool) → a && true ≡ a
 and_true true = refl
 and_true false = refl
 
--- after i turns: the differences found so far, and those of the entries left, tell whether the lists are the same
-pub record Compared (x y : List ℕ) (difference i : ℕ) : Type 0 where
-  pub within : i ≤ length x
-  pub sizes : length x ≡ length y
-  pub told : eqb difference 0 && same (drop i x) (drop i y) ≡ same x y
+-- between two turns: the differences found so far, and those of the entries that are left, tell whether the lists are the same
+pub record Compared (x y left-x left-y : List ℕ) (difference : ℕ) : Type 0 where
+  pub sizes : length left-x ≡ length left-y
+  pub told : eqb difference 0 && same left-x left-y ≡ same x y
 
--- two lists from place i on
-same_at : (x y : List ℕ) (i : ℕ) → i < length x → length x ≡ length y
-    → same (drop i x) (drop i y) ≡ eqb (get_or x i 0) (get_or y i 0) && same (drop (i + 1) x) (drop (i + 1) y)
+-- two lists of no entries are the same
+none_left : (xs ys : List ℕ) → length xs ≡ 0 → length ys ≡ 0 → same xs ys ≡ true
 unfolding same
-same_at x y i h e =
-    let k : i < length y = omega arith in
-    rw (drop-cons x i 0 h, drop-cons y i 0 k, add-one)
+none_left [] [] h k = refl
+none_left [] (y ∷ ys) h k = absurd (omega arith)
+none_left (x ∷ xs) ys h k = absurd (omega arith)
 
-module _ {x y : List ℕ} where
-  pub compared_none : length x ≡ length y → Compared x y 0 0
-  compared_none e = record { within = omega arith; sizes = e; told = refl }
+module _ {x y left-x left-y : List ℕ} where
+  -- before the first turn
+  pub compared_none : length x ≡ length y → left-x ≡ x → left-y ≡ y → Compared x y left-x left-y 0
+  compared_none h e f = rw (e, f) (record { sizes = h; told = refl })
 
-  module _ {difference i : ℕ} (r : Compared x y difference i) where
-    pub compared_more : i < length x → Compared x y (bit_or difference (bit_xor (get_or x i 0) (get_or y i 0))) (i + 1)
-    compared_more h =
-        let rest : Bool = same (drop (i + 1) x) (drop (i + 1) y) in
+  module _ {difference : ℕ} (r : Compared x y left-x left-y difference) where
+    -- a turn takes one entry of each
+    pub compared_more : {a b : ℕ} {after-x after-y : List ℕ} → left-x ≡ a ∷ after-x → left-y ≡ b ∷ after-y
+        → Compared x y after-x after-y (bit_or difference (bit_xor a b))
+    unfolding same
+    compared_more {a} {b} {after-x} {after-y} e f =
+        let rest : Bool = same after-x after-y in
+        let whole = rw (e, f) at r.told in
+        let sizes = rw (e, f) at r.sizes in
         record {
-          within = omega arith;
-          sizes = r.sizes;
-          told = ap (λ (t : Bool). t && rest) (difference_told difference (get_or x i 0) (get_or y i 0))
-              ∙ and_assoc (eqb difference 0) (eqb (get_or x i 0) (get_or y i 0)) rest
-              ∙ ap (λ (t : Bool). eqb difference 0 && t) (sym (same_at x y i h r.sizes))
-              ∙ r.told;
+          sizes = omega arith;
+          told = ap (λ (t : Bool). t && rest) (difference_told difference a b) ∙ and_assoc (eqb difference 0) (eqb a b) rest ∙ whole;
         }
 
-    pub compared_all : length x ≤ i → eqb difference 0 ≡ same x y
-    unfolding same
-    compared_all h =
-        let at-end : i ≡ length x = omega (arith, r.within) in
-        let none-x : drop i x ≡ [] = ap (λ (n : ℕ). drop n x) at-end ∙ drop-length x in
-        let none-y : drop i y ≡ [] = ap (λ (n : ℕ). drop n y) (at-end ∙ r.sizes) ∙ drop-length y in
-        let ended : same (drop i x) (drop i y) ≡ true = rw (none-x, none-y) in
+    -- after the last turn
+    pub compared_all : length left-x ≡ 0 → eqb difference 0 ≡ same x y
+    compared_all e =
+        let ended = none_left left-x left-y e (sym r.sizes ∙ e) in
         sym (and_true (eqb difference 0)) ∙ ap (λ (t : Bool). eqb difference 0 && t) (sym ended) ∙ r.told

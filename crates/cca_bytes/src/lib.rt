@@ -19,10 +19,8 @@ pub fn same_bytes(x: &[u8], y: &[u8]) -> bool
     ensures { result ≡ same x.now y.now }
 {
     let mut difference: u8 = 0;
-    let mut i: usize = 0;
-    while i < x.len() {
-        difference = difference | (x[i] ^ y[i]);
-        i += 1;
+    for (a, b) in x.iter().zip(y) {
+        difference |= *a ^ *b;
     }
     difference == 0
 }

@@ -83,12 +83,6 @@ module _ (width cmp : ℕ) (w : Widths width cmp) where
             low = omega arith;
           }
 
-  -- the next group begins as many bytes further as a number has bits
-  pub group_next : {i j : ℕ} → Position 8 (width - cmp) j 0 i → Position 8 (width - cmp) (j + (width - cmp)) 0 (i + 8)
-  group_next {i} p = record { place = omega (arith, p.place, mul-add (width - cmp) i 8); low = omega arith }
-
-  -- after whole groups
-  pub group_place : (i : ℕ) → i % 8 ≡ 0 → Position 8 (width - cmp) (i / 8 * (width - cmp)) 0 i
-  group_place i whole =
-      let split : i ≡ i / 8 * 8 = omega arith in
-      record { place = omega (arith, ap (λ (x : ℕ). (width - cmp) * x) split); low = omega arith }
+  -- a group begins with as many bytes for each group before it as a number has bits
+  pub group_place : (g : ℕ) → Position 8 (width - cmp) (g * (width - cmp)) 0 (8 * g)
+  group_place g = record { place = omega (arith, mul_comm g (width - cmp)); low = omega arith }

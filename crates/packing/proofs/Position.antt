@@ -1,6 +1,6 @@
 -- Where digits of one width begin among digits of another (003, algorithms 17 and 20), turn by turn of a loop that takes them in order.
 -- Assumes nothing.
-use mathlib.Core.Path.{◌≡◌}
+use mathlib.Core.Path.{◌≡◌, ap}
 use Prim.Native.Nat.{ℕ, ◌+◌, ◌*◌, ◌/◌, ◌%◌, ◌≤◌, ◌<◌}
 use native.Mathlib.Nat.{mul-zero, mul-add, mul-le-mul_left, mul-le-mul_right, div-add-mod', mod-lt}
 use native.Mathlib.Omega.{arith}
@@ -27,19 +27,24 @@ numbers_passed {i = i} p h = omega (arith, mul-le-mul_right i h)
 pub bytes_passed : {kept i bit j : ℕ} → Position 8 kept j bit i → kept ≤ 24 → j ≤ 3 * i
 bytes_passed {i = i} p h = omega (arith, mul-le-mul_right i h)
 
--- 8 numbers are as many bytes as a number has bits: where byte j begins, from whole groups of 8 numbers and the bytes left
-module _ (kept j : ℕ) (h : 8 ≤ kept) where
-  -- the numbers of whole groups are no more than the bytes
-  pub grouped_within : j / kept * 8 ≤ j
-  grouped_within = omega (arith, div-add-mod' j kept, mul-le-mul_left (j / kept) h)
-
-  pub position_within : Position kept 8 (j / kept * 8 + j % kept * 8 / kept) (j % kept * 8 % kept) j
+-- `to` digits of `from` bits are as long as `from` digits of `to` bits: where digit j begins, from the whole groups before it and the digits left
+module _ (from to j : ℕ) (h : 0 < from) where
+  pub position_within : Position from to (j / from * to + j % from * to / from) (j % from * to % from) j
   position_within =
       record {
-        place = omega (arith, mul-add kept (j / kept * 8) (j % kept * 8 / kept), div-add-mod' j kept, div-add-mod' (j % kept * 8) kept);
-        low = mod-lt (j % kept * 8) (omega arith);
+        place = omega (
+          arith,
+          mul-add from (j / from * to) (j % from * to / from),
+          ap (λ (n : ℕ). n * to) (div-add-mod' j from),
+          div-add-mod' (j % from * to) from,
+        );
+        low = mod-lt (j % from * to) h;
       }
 
-  -- the same, where two functions gave the number and the bit
-  pub position_given : {i bit : ℕ} → i ≡ j / kept * 8 + j % kept * 8 / kept → bit ≡ j % kept * 8 % kept → Position kept 8 i bit j
+  -- the same, where two functions gave the digit and the bit
+  pub position_given : {i bit : ℕ} → i ≡ j / from * to + j % from * to / from → bit ≡ j % from * to % from → Position from to i bit j
   position_given e f = rw (e, f) position_within
+
+-- the numbers of whole groups are no more than the bytes
+pub grouped_within : (kept j : ℕ) → 8 ≤ kept → j / kept * 8 ≤ j
+grouped_within kept j h = omega (arith, div-add-mod' j kept, mul-le-mul_left (j / kept) h)

@@ -12,10 +12,9 @@ ghost use Rattle.packing.specs.Message.{message_bits_of, message_bytes};
 fn number_at(numbers: &[u32], i: usize) -> u64
     ensures { (result ≡ at numbers.now i) × (result < 2 ^ 32) }
 {
-    if i < numbers.len() {
-        numbers[i] as u64
-    } else {
-        0
+    match numbers.get(i) {
+        Some(number) => u64::from(*number),
+        None => 0,
     }
 }
 
@@ -66,7 +65,7 @@ fn store_four(out: &mut [u8], j: usize, held: u64)
     out[j + 3] = ((held >> 24) % 256) as u8;
 }
 
-// Packs as `pack_dropping` does, four bytes at a time, and gives how many bytes are written: all but the last three at most.
+// Packs as `pack_dropping` does, four bytes at a time while there are numbers, and gives how many bytes are written.
 fn pack_words(numbers: &[u32], width: u32, cmp: u32, out: &mut [u8]) -> usize
     requires widths { Widths width cmp }
     requires digit { Digit width numbers.now }
@@ -76,12 +75,13 @@ fn pack_words(numbers: &[u32], width: u32, cmp: u32, out: &mut [u8]) -> usize
     let kept = width - cmp;
     let mut held: u64 = 0;
     let mut bits: u32 = 0;
-    let mut i: usize = 0;
     let mut j: usize = 0;
-    while j + 4 <= out.len() {
-        held = held_with(held, bits, number_at(numbers, i), cmp);
+    for number in numbers {
+        if out.len() < j + 4 {
+            return j;
+        }
+        held = held_with(held, bits, u64::from(*number), cmp);
         bits += kept;
-        i += 1;
         if bits >= 32 {
             store_four(out, j, held);
             held >>= 32;
@@ -99,17 +99,9 @@ pub fn pack_dropping(numbers: &[u32], width: u32, cmp: u32, out: &mut [u8])
     ensures { out.new ≡ pack_dropping_of width cmp (length out.old) numbers.now }
 {
     let kept = width - cmp;
-    let mut j = pack_words(numbers, width, cmp, out);
-    let mut i = number_with(j, kept);
-    let mut bit = bit_of(j, kept);
-    while j < out.len() {
-        out[j] = byte_of(numbers, i, bit, kept, cmp);
-        bit += 8;
-        if bit >= kept {
-            bit -= kept;
-            i += 1;
-        }
-        j += 1;
+    let written = pack_words(numbers, width, cmp, out);
+    for j in written..out.len() {
+        out[j] = byte_of(numbers, number_with(j, kept), bit_of(j, kept), kept, cmp);
     }
 }
 
@@ -122,22 +114,12 @@ pub fn pack_into(numbers: &[u32], width: u32, out: &mut [u8])
     pack_dropping(numbers, width, 0, out);
 }
 
-// A byte as a larger number.
-fn wide(x: u8) -> u32
-    ensures { (result ≡ x) × (result < 2 ^ 8) }
-{
-    x as u32
-}
-
 // The four bytes from place j on as one number, the least significant first, where all of them are there: one read.
 fn word_at(bytes: &[u8], j: usize) -> u32
     requires { j + 4 ≤ length bytes.now }
     ensures { result ≡ four_bytes bytes.now j }
 {
-    wide(bytes[j])
-        + (wide(bytes[j + 1]) << 8)
-        + (wide(bytes[j + 2]) << 16)
-        + (wide(bytes[j + 3]) << 24)
+    u32::from_le_bytes([bytes[j], bytes[j + 1], bytes[j + 2], bytes[j + 3]])
 }
 
 // The same near the end, where some of them may be past it.
@@ -163,12 +145,14 @@ fn window_at(bytes: &[u8], j: usize) -> u32
     }
 }
 
-// The number whose `kept` high bits begin at a bit of byte j, with zeros for its low `cmp`.
-fn number_of(bytes: &[u8], j: usize, bit: u32, kept: u32, cmp: u32) -> u32
-    requires { (j < 2 ^ 63) × (bit < 8) × (kept + cmp ≤ 24) }
-    ensures { result ≡ four_bytes bytes.now j / 2 ^ bit % 2 ^ kept * 2 ^ cmp }
+// Number i, of which `kept` high bits stand in the bytes, with zeros for its low `cmp`: number i % 8 of a group of eight, which are `kept` bytes.
+fn number_of(bytes: &[u8], i: usize, kept: u32, cmp: u32) -> u32
+    requires { (i < 2 ^ 61) × (kept + cmp ≤ 24) }
+    ensures { result ≡ four_bytes bytes.now (i / 8 * kept + i % 8 * kept / 8) / 2 ^ (i % 8 * kept % 8) % 2 ^ kept * 2 ^ cmp }
 {
-    bit_fields::number_in(window_at(bytes, j), bit, kept, cmp)
+    let bits = i % 8 * (kept as usize);
+    let word = window_at(bytes, i / 8 * (kept as usize) + bits / 8);
+    bit_fields::number_in(word, (bits % 8) as u32, kept, cmp)
 }
 
 // Number k of the eight that begin with byte j, far from the end.
@@ -185,31 +169,27 @@ fn unpack_group(bytes: &[u8], j: usize, kept: u32, cmp: u32, out: &mut [u32], i:
     requires { (j + 32 ≤ length bytes.now) × (kept + cmp ≤ 24) × (i + 8 ≤ length out.old) }
     ensures { out.new ≡ over out.old i (group kept cmp j bytes.now) }
 {
-    let mut k: usize = 0;
-    while k < 8 {
+    for k in 0..8 {
         out[i + k] = number_in_group(bytes, j, k, kept, cmp);
-        k += 1;
     }
 }
 
 // Unpacks as `unpack_dropped` does, eight numbers at a time, and gives how many numbers are written.
 fn unpack_groups(bytes: &[u8], width: u32, cmp: u32, out: &mut [u32]) -> usize
     requires { Widths width cmp }
-    ensures { (result % 8 ≡ 0) × (result ≤ length out.old)
+    ensures { (result ≤ length out.old)
         × (out.new ≡ over out.old 0 (take result (unpack_dropped_of width cmp (length out.old) bytes.now))) }
 {
     let kept = width - cmp;
-    let mut j: usize = 0;
-    let mut i: usize = 0;
-    while i + 8 <= out.len() {
+    let groups = out.len() / 8;
+    for group in 0..groups {
+        let j = group * (kept as usize);
         if bytes.len() < j + 32 {
-            return i;
+            return 8 * group;
         }
-        unpack_group(bytes, j, kept, cmp, out, i);
-        j += kept as usize;
-        i += 8;
+        unpack_group(bytes, j, kept, cmp, out, 8 * group);
     }
-    i
+    8 * groups
 }
 
 // Unpacks numbers of `width` bits each whose low `cmp` bits were dropped into all of `out`.
@@ -218,15 +198,9 @@ pub fn unpack_dropped(bytes: &[u8], width: u32, cmp: u32, out: &mut [u32])
     ensures { out.new ≡ unpack_dropped_of width cmp (length out.old) bytes.now }
 {
     let kept = width - cmp;
-    let mut i = unpack_groups(bytes, width, cmp, out);
-    let mut j = i / 8 * (kept as usize);
-    let mut bit: u32 = 0;
-    while i < out.len() {
-        out[i] = number_of(bytes, j, bit, kept, cmp);
-        bit += kept;
-        j += (bit / 8) as usize;
-        bit %= 8;
-        i += 1;
+    let written = unpack_groups(bytes, width, cmp, out);
+    for i in written..out.len() {
+        out[i] = number_of(bytes, i, kept, cmp);
     }
 }
 
@@ -242,10 +216,8 @@ pub fn unpack_into(bytes: &[u8], width: u32, out: &mut [u32])
 pub fn bits_of(message: &[u8], out: &mut [u32])
     ensures { out.new ≡ message_bits_of (length out.old) message.now }
 {
-    let mut i: usize = 0;
-    while i < out.len() {
-        out[i] = bit_fields::bit_at(message, i);
-        i += 1;
+    for (i, bit) in out.iter_mut().enumerate() {
+        *bit = bit_fields::bit_at(message, i);
     }
 }
 
@@ -256,9 +228,7 @@ fn byte_of_bits(bits: &[u32], from: usize) -> u8
     ensures { result ≡ value 1 (drop from bits.now) % 2 ^ 8 }
 {
     let mut byte: u64 = 0;
-    let mut k: usize = 8;
-    while k > 0 {
-        k -= 1;
+    for k in (0..8).rev() {
         byte = number_at(bits, from + k) + 2 * byte;
     }
     byte as u8
@@ -270,9 +240,7 @@ pub fn bytes_of_bits(bits: &[u32], out: &mut [u8])
     requires out_in_bounds { 8 * length out.old ≤ length bits.now }
     ensures { out.new ≡ message_bytes (length out.old) bits.now }
 {
-    let mut i: usize = 0;
-    while i < out.len() {
-        out[i] = byte_of_bits(bits, 8 * i);
-        i += 1;
+    for (i, byte) in out.iter_mut().enumerate() {
+        *byte = byte_of_bits(bits, 8 * i);
     }
 }

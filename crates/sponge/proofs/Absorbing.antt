@@ -2,12 +2,12 @@
 -- Assumes nothing.
 use mathlib.Core.Path.{◌≡◌, refl, sym, ap, ap₂, subst, ◌∙◌}
 use mathlib.Core.List.{List, [], ◌∷◌, ◌++◌, append_assoc, append-nil}
-use Prim.Native.Nat.{ℕ, zero, suc, ◌+◌, ◌*◌, ◌/◌, ◌%◌, ◌-◌, ◌≤◌, ◌<◌}
+use Prim.Native.Nat.{ℕ, zero, suc, ◌+◌, ◌*◌, ◌/◌, ◌%◌, ◌-◌, ◌≤◌, ◌<◌, min}
 use native.Mathlib.Omega.{arith}
 use lib.ListN.{length, take, drop, replicate, length-append, length-take, length-drop, length-replicate, drop_of_length-le}
 use lib.Seq.{take-append-le, drop-append-le, take-add, take_all}
 use Rattle.calls.specs.Region.{region, over}
-use Rattle.calls.proofs.Region.{over_front, over_length, over_append}
+use Rattle.calls.proofs.Region.{over_front, over_length, over_lent, over_append}
 use Rattle.keccak.specs.Keccak.{keccak_f}
 use Rattle.keccak.specs.Lane.{state}
 use Rattle.sponge.specs.Sponge.{mixed, absorbed, padding, padded}
@@ -96,33 +96,51 @@ module _ (a : List (List ℕ)) (block : List ℕ) (at : ℕ) (xs : List ℕ) (r 
         };
       }
 
--- a piece of the bytes, from i on, after the first i of them
-module _ {a₀ : List (List ℕ)} {block₀ : List ℕ} {at₀ : ℕ} {a : List (List ℕ)} {block : List ℕ} {at : ℕ} (bytes : List ℕ) (i n : ℕ)
-    (f : Fed a₀ block₀ at₀ (take i bytes) a block at) (fits : i + n ≤ length bytes) where
-  -- the piece has n bytes
-  piece_length : length (take (i + n - i) (drop i bytes)) ≡ n
-  piece_length = simp (length-take, length-drop) (omega arith)
+-- a list of no entries
+length-zero : (xs : List ℕ) → length xs ≡ 0 → xs ≡ []
+length-zero [] e = refl
+length-zero (x ∷ xs) e = absurd (omega arith)
 
-  -- the first bytes with the piece
-  piece_joined : take i bytes ++ take (i + n - i) (drop i bytes) ≡ take (i + n) bytes
-  piece_joined = let e : i + (i + n - i) ≡ i + n = omega arith in sym (take-add i (i + n - i) bytes) ∙ ap (λ (k : ℕ). take k bytes) e
+-- what of the bytes is taken in by pieces of at most a block, and what is left of them, which begins with a block
+pub record Pieces (a₀ : List (List ℕ)) (block₀ : List ℕ) (at₀ : ℕ) (bytes left : List ℕ) (a : List (List ℕ)) (block : List ℕ) (at : ℕ) : Type 0 where
+  pub taken : List ℕ
+  pub all : bytes ≡ taken ++ left
+  pub fed : Fed a₀ block₀ at₀ taken a block at
+  pub aligned : 0 < length left → at ≡ 0
 
-  -- the piece leaves room in the block
-  pub piece_part : (block' : List ℕ) → block' ≡ over block at (take (i + n - i) (drop i bytes)) → at + n < 136
-      → Fed a₀ block₀ at₀ (take (i + n) bytes) a block' (at + n)
-  piece_part block' w l =
-      let k = piece_length in
-      let g = fed_then f (fed_part a block at (take (i + n - i) (drop i bytes)) f.ready (omega arith)) in
-      rw (w, ← piece_joined) (subst (λ (x : ℕ). Fed a₀ block₀ at₀ (take i bytes ++ take (i + n - i) (drop i bytes)) a
-      (over block at (take (i + n - i) (drop i bytes))) (at + x)) k g)
+module _ {a₀ : List (List ℕ)} {block₀ : List ℕ} {at₀ : ℕ} {bytes left : List ℕ} {a : List (List ℕ)} {block : List ℕ} {at : ℕ} where
+  -- after the first piece, for which the block had room
+  pub pieces_begun : {head : List ℕ} → Fed a₀ block₀ at₀ head a block at → bytes ≡ head ++ left → length head ≡ min (length bytes) (136 - at₀) → at₀ < 136
+      → Pieces a₀ block₀ at₀ bytes left a block at
+  pieces_begun {head} f e h l =
+      let sizes : length bytes ≡ length head + length left = ap length e ∙ length-append head left in
+      record { taken = head; all = e; fed = f; aligned = λ m. omega (arith, f.place) }
 
-  -- the piece fills the block
-  pub piece_full : (a' : List (List ℕ)) (block' : List ℕ) → block' ≡ over block at (take (i + n - i) (drop i bytes)) → a' ≡ keccak_f (mixed a block')
-      → at + n ≡ 136
-      → Fed a₀ block₀ at₀ (take (i + n) bytes) a' block' 0
-  piece_full a' block' w e l =
-      let k = piece_length in
-      rw (e, w, ← piece_joined) (fed_then f (fed_full a block at (take (i + n - i) (drop i bytes)) f.ready (omega arith)))
+  module _ (p : Pieces a₀ block₀ at₀ bytes left a block at) where
+    -- a piece more
+    pub pieces_more : {piece left' : List ℕ} {a' : List (List ℕ)} {block' : List ℕ} {at' : ℕ} → left ≡ piece ++ left' → length piece ≡ min 136 (length left)
+        → 0 < length left → Fed a block at piece a' block' at' → Pieces a₀ block₀ at₀ bytes left' a' block' at'
+    pieces_more {piece} {left'} e h m f =
+        let sizes : length left ≡ length piece + length left' = ap length e ∙ length-append piece left' in
+        record {
+          taken = p.taken ++ piece;
+          all = p.all ∙ ap (λ (l : List ℕ). p.taken ++ l) e ∙ sym (append_assoc p.taken piece left');
+          fed = fed_then p.fed f;
+          aligned = λ k. omega (arith, f.place, p.aligned m);
+        }
+
+    -- after the last piece
+    pub pieces_all : length left ≡ 0 → Fed a₀ block₀ at₀ bytes a block at
+    pieces_all e = rw (p.all, length-zero left e, append-nil) p.fed
+
+-- a part of a list that was lent for writing and came back filled with n zeros
+pub zeros_lent : (xs : List ℕ) (start end n : ℕ) {ys : List ℕ} → start + n ≡ end → end ≤ length xs
+    → ys ≡ replicate (length (take (end - start) (drop start xs))) 0
+    → take start xs ++ (ys ++ drop (end - start) (drop start xs)) ≡ over xs start (replicate n 0)
+zeros_lent xs start end n {ys} e h z =
+    let room : length (take (end - start) (drop start xs)) ≡ n = simp (length-take, length-drop) (omega arith) in
+    let filled : ys ≡ replicate n 0 = z ∙ ap (λ (k : ℕ). replicate k 0) room in
+    over_lent xs start ys end (rw (filled, length-replicate) (sym e)) ∙ ap (over xs start) filled
 
 -- the number of bytes of a padding
 pub padding_length : (suffix q : ℕ) → length (padding suffix q) ≡ q

@@ -3,10 +3,12 @@
 use mathlib.Core.Path.{◌≡◌, refl, sym, ap, ◌∙◌}
 use mathlib.Core.List.{List, ◌++◌}
 use Prim.Native.Nat.{ℕ, zero, suc, ◌+◌, ◌*◌, ◌/◌, ◌%◌, ◌≤◌, ◌<◌}
+use native.Mathlib.Nat.{div-div-eq-div-mul}
 use native.Mathlib.Numerals.{add-one}
 use native.Mathlib.Omega.{arith}
 use lib.ListN.{length, get_or, take, drop, length-append, drop_of_length-le}
 use lib.Seq.{drop-cons}
+use Rattle.std.specs.Int.{w64, to_le_bytes}
 use Rattle.calls.specs.Region.{over}
 use Rattle.calls.proofs.Region.{over_append, over_length, over_whole}
 use Rattle.keccak.specs.Lane.{lane}
@@ -41,6 +43,11 @@ lane_inside xs i j e h =
 pub lane_past : (xs : List ℕ) (i : ℕ) → length xs ≤ 8 * i → 0 ≡ lane_of xs i
 unfolding lane_of little_endian
 lane_past xs i h = rw (drop_of_length-le xs h)
+
+-- the bytes of a lane, as the library gives them
+pub eight_bytes : (v : ℕ) → to_le_bytes w64 v ≡ bytes_of 8 v
+unfolding bytes_of
+eight_bytes v = simp div-div-eq-div-mul
 
 -- the number of bytes
 pub bytes_of_length : (n v : ℕ) → length (bytes_of n v) ≡ n

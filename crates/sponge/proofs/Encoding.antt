@@ -5,7 +5,9 @@ use mathlib.Core.List.{List, [], ◌∷◌, ◌++◌, append_assoc}
 use Prim.Native.Nat.{ℕ, suc, ◌+◌, ◌/◌, ◌%◌, ◌-◌, ◌≤◌, ◌<◌}
 use native.Mathlib.Omega.{arith}
 use borrow.Author.Tests.{lt-ltb, le-ltb}
-use lib.ListN.{length, replicate, length-append, length-replicate}
+use lib.ListN.{length, take, drop, replicate, length-append, length-drop, length-replicate}
+use lib.Seq.{take_all}
+use Rattle.std.specs.Int.{w32, to_be_bytes}
 use Rattle.calls.specs.Region.{over}
 use Rattle.keccak.specs.Keccak.{keccak_f}
 use Rattle.sponge.specs.Sponge.{mixed, sponge}
@@ -38,15 +40,23 @@ digits_three x h l =
     ∙ ap (λ (d : List ℕ). d ++ ((x % 256) ∷ []))
     (digits_more 253 (x / 256) h ∙ ap (λ (d : List ℕ). d ++ ((x / 256 % 256) ∷ [])) (digits_last 252 (x / 256 / 256) l))
 
--- left_encode of a number whose digits are known
-pub left_is : (x : ℕ) (d : List ℕ) → base256 255 x ≡ d → length d ∷ d ≡ left_encode x
-unfolding left_encode
-left_is x d e = rw e
+-- the four bytes of a number, the highest first, of which the digits begin with the given one
+module _ (x first : ℕ) {bytes : List ℕ} (e : bytes ≡ to_be_bytes w32 x) (d : drop first (to_be_bytes w32 x) ≡ base256 255 x) where
+  digits : drop first bytes ≡ base256 255 x
+  digits = ap (drop first) e ∙ d
 
--- right_encode of a number whose digits are known
-pub right_is : (x : ℕ) (d : List ℕ) → base256 255 x ≡ d → d ++ (length d ∷ []) ≡ right_encode x
-unfolding right_encode
-right_is x d e = rw e
+  digits_length : length (drop first bytes) ≡ 4 - first
+  digits_length = length-drop first bytes ∙ ap (λ (n : ℕ). n - first) (ap length e)
+
+  -- the number of digits, then the digits
+  pub left_parts : (4 - first) ∷ take (4 - first) (drop first bytes) ≡ left_encode x
+  unfolding left_encode
+  left_parts = rw (take_all (4 - first) (drop first bytes) (omega (arith, digits_length)), ← digits_length, digits)
+
+  -- the digits, then the number of digits
+  pub right_parts : take (4 - first) (drop first bytes) ++ ((4 - first) ∷ []) ≡ right_encode x
+  unfolding right_encode
+  right_parts = rw (take_all (4 - first) (drop first bytes) (omega (arith, digits_length)), ← digits_length, digits)
 
 module _ {a : List (List ℕ)} {block : List ℕ} {at : ℕ} {a' : List (List ℕ)} {block' : List ℕ} {at' : ℕ} where
   -- the same bytes in another form

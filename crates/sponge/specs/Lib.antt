@@ -1,3 +1,4 @@
 pub mod Sponge
 pub mod Kmac
 pub mod Absorbed
+pub mod Taken

@@ -10,26 +10,27 @@ mod feed;
 mod kmac;
 mod lanes;
 mod squeeze;
+mod state;
+
+use state::Sponge;
 
 // SHAKE256 of `input`.
 pub fn shake256_into(input: &[u8], out: &mut [u8])
     ensures { out.new ≡ shake256 input.now (length out.old) }
 {
-    let mut block = [0u8; 136];
-    let mut at: usize = 0;
-    let a = feed::feed([[0u64; 5]; 5], &mut block, &mut at, input);
-    squeeze::finish(a, &mut block, at, 0x1f, out);
+    let mut sponge = Sponge::new();
+    sponge.feed(input);
+    sponge.finish(0x1f, out);
 }
 
 // SHAKE256 of two slices, one after the other.
 pub fn shake256_of_two(first: &[u8], second: &[u8], out: &mut [u8])
     ensures { out.new ≡ shake256 (first.now ++ second.now) (length out.old) }
 {
-    let mut block = [0u8; 136];
-    let mut at: usize = 0;
-    let a = feed::feed([[0u64; 5]; 5], &mut block, &mut at, first);
-    let b = feed::feed(a, &mut block, &mut at, second);
-    squeeze::finish(b, &mut block, at, 0x1f, out);
+    let mut sponge = Sponge::new();
+    sponge.feed(first);
+    sponge.feed(second);
+    sponge.finish(0x1f, out);
 }
 
 // KMAC256: the output's length is part of what is hashed.

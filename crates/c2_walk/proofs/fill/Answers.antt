@@ -1,7 +1,6 @@
 -- `c2_walk::fill` meets its contract: after j turns the first j places are finished, and the rest is as it was before the walk.
 -- Assumes nothing.
 use mathlib.Core.Path.{◌≡◌, sym, ◌∙◌}
-use Prim.Native.Nat.{◌-◌}
 use native.Mathlib.Omega.{arith}
 use lib.ListN.{length}
 use Rattle.c2_place.proofs.Laws.{walked_none, walked_length, walked_all}
@@ -23,11 +22,8 @@ loop-j-init c =
 
 pub finish_place-requires : goal.finish_place-requires
 finish_place-requires c =
-    (rw (kept (goal.at.finish_place-requires c).At-loop-j) c.requires, c.loop-j-test.true)
-
-pub loop-j-smaller : goal.loop-j-smaller
-loop-j-smaller c =
-    omega (arith, c.loop-j-test.true, kept (goal.at.loop-j-smaller c).At-loop-j)
+    let same = kept (goal.at.finish_place-requires c).At-loop-j in
+    (rw same c.requires, omega (arith, same, c.loop-j-test.true))
 
 pub loop-j-preserved : goal.loop-j-preserved
 loop-j-preserved c =

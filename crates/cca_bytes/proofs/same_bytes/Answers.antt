@@ -1,14 +1,21 @@
--- `cca_bytes::same_bytes` meets its contract: after i turns the differences of the first i bytes are found.
+-- `cca_bytes::same_bytes` meets its contract: between two turns the differences of the bytes taken are found.
 -- Assumes nothing.
-use Prim.Native.Nat.{◌-◌}
+use mathlib.Core.Path.{◌∙◌}
+use mathlib.Core.Logic.{inl, inr}
 use Rattle.cca_bytes.proofs.Compared.{compared_none, compared_more, compared_all}
 use Rattle.cca_bytes.proofs.same_bytes.Goals as goal
 
-pub loop-i-init : goal.loop-i-init
-loop-i-init c = compared_none c.requires
+pub loop-a-init : goal.loop-a-init
+loop-a-init c = compared_none c.requires (cc) (cc)
 
-pub loop-i-preserved : goal.loop-i-preserved
-loop-i-preserved c = compared_more c.loop-i.invariant c.loop-i-test.true
+pub loop-a-preserved : goal.loop-a-preserved
+loop-a-preserved c = compared_more c.loop-a.invariant c.in-Some.ensures.steps.0 c.in-Some.ensures.steps.1
 
 pub returns : goal.returns
-returns c = compared_all c.loop-i.invariant c.loop-i-test.false
+returns c =
+    let compared = c.loop-a.invariant in
+    compared_all compared
+    (elim c.in-None.ensures.steps [
+      | inl first ↦ first.1.0
+      | inr second ↦ compared.sizes ∙ second.1.0
+    ])

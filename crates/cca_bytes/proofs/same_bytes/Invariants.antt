@@ -1,12 +1,7 @@
--- `cca_bytes::same_bytes` meets its contract: after i turns the differences of the first i bytes are found.
+-- `cca_bytes::same_bytes` meets its contract: between two turns the differences of the bytes taken are found.
 -- Assumes nothing.
-use Prim.Native.Nat.{◌-◌}
-use lib.ListN.{length}
 use Rattle.cca_bytes.proofs.Compared.{Compared}
 use Rattle.cca_bytes.proofs.same_bytes.Given as goal
 
-abbrev pub invariant-loop-i : goal.invariant-loop-i
-invariant-loop-i l = Compared l.x l.y l.difference l.i
-
-abbrev pub decreases-loop-i : goal.decreases-loop-i
-decreases-loop-i l = length l.x - l.i
+abbrev pub invariant-loop-a : goal.invariant-loop-a
+invariant-loop-a l = Compared l.x l.y l.a-iterator.a.rest.now l.a-iterator.b.rest.now l.difference

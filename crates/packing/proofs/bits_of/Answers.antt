@@ -1,7 +1,7 @@
 -- `packing::bits_of` (003, algorithm 27) meets its contract: after i turns the first i bits stand in place.
 -- Assumes nothing.
 use mathlib.Core.Path.{refl, sym, ◌∙◌}
-use Prim.Native.Nat.{◌-◌, ◌<◌}
+use Prim.Native.Nat.{◌<◌}
 use native.Mathlib.Omega.{arith}
 use lib.ListN.{length}
 use Rattle.calls.proofs.Filled.{filled_none, filled_more, filled_whole}
@@ -16,9 +16,8 @@ loop-i-preserved c =
     let a = c.args in
     let now = c.loop-i in
     let more : now.i < length a.out.now = omega arith in
-    let byte = c.shared_slice_known-1.given in
     filled_more 0 now.invariant more (omega arith)
-    (c.bit_at.ensures ∙ sym (message_bits_at (length a.out.now) now.i a.message.now (λ k. (byte k).fits) more))
+    (c.bit_at.ensures ∙ sym (message_bits_at (length a.out.now) now.i a.message.now (λ k. (c.type_inv.message k).fits) more))
 
 pub returns : goal.returns
 returns c = filled_whole c.loop-i.invariant refl (omega arith)

@@ -1,6 +1,5 @@
 -- `packing::bits_of` (003, algorithm 27) meets its contract: after i turns the first i bits stand in place.
 -- Assumes nothing.
-use Prim.Native.Nat.{◌-◌}
 use lib.ListN.{length}
 use Rattle.calls.proofs.Filled.{Filled}
 use Rattle.packing.specs.Message.{message_bits_of}
@@ -8,6 +7,3 @@ use Rattle.packing.proofs.bits_of.Given as goal
 
 abbrev pub invariant-loop-i : goal.invariant-loop-i
 invariant-loop-i l = Filled l.initial.out 0 (length l.initial.out) (message_bits_of (length l.initial.out) l.message) l.i l.out
-
-abbrev pub decreases-loop-i : goal.decreases-loop-i
-decreases-loop-i l = length l.initial.out - l.i

@@ -1,7 +1,7 @@
 -- `packing::bytes_of_bits` (003, algorithm 28) meets its contract: after i turns the first i bytes stand in place.
 -- Assumes nothing.
 use mathlib.Core.Path.{refl, sym, ◌∙◌}
-use Prim.Native.Nat.{◌-◌, ◌<◌}
+use Prim.Native.Nat.{◌<◌}
 use native.Mathlib.Omega.{arith}
 use lib.ListN.{length}
 use Rattle.calls.proofs.Filled.{filled_none, filled_more, filled_whole}

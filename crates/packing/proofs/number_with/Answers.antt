@@ -12,4 +12,4 @@ pub overflow_mul-result-2 : goal.overflow_mul-result-2
 overflow_mul-result-2 c = omega (arith, mod-lt c.args.j {m = c.args.kept} (omega arith))
 
 pub overflow_add-result : goal.overflow_add-result
-overflow_add-result c = omega (arith, numbers_passed (position_within c.args.kept c.args.j (omega arith)) (omega arith))
+overflow_add-result c = omega (arith, numbers_passed (position_within c.args.kept 8 c.args.j (omega arith)) (omega arith))

@@ -1,7 +1,6 @@
 -- `packing::unpack_group` (003, algorithms 20 and 22) meets its contract: after k turns the first k numbers of the group stand in place.
 -- Assumes nothing.
 use mathlib.Core.Path.{refl, sym, ◌∙◌}
-use Prim.Native.Nat.{◌-◌}
 use native.Mathlib.Omega.{arith}
 use Rattle.calls.proofs.Filled.{filled_none, filled_more, filled_all}
 use Rattle.packing.proofs.Groups.{group_length, group_at}

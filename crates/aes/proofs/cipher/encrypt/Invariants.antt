@@ -1,4 +1,4 @@
--- `aes::cipher::encrypt` meets its contract: after n turns the state is that of n rounds.
+-- `aes::cipher::encrypt` meets its contract: before round n the state is that of n − 1 rounds.
 -- Assumes nothing.
 use mathlib.Core.Path.{◌≡◌}
 use mathlib.Core.List.{List}
@@ -9,7 +9,5 @@ use Rattle.aes.proofs.cipher.encrypt.Given as goal
 
 abbrev pub invariant-loop-n : goal.invariant-loop-n
 invariant-loop-n l =
-    (l.n ≤ 13) × ((first : List (List ℕ)) → columns l.initial.s ≡ rounds (schedule l.keys) 0 first → columns l.s ≡ rounds (schedule l.keys) l.n first)
-
-abbrev pub decreases-loop-n : goal.decreases-loop-n
-decreases-loop-n l = 13 - l.n
+    (1 ≤ l.n) × (l.n ≤ 14)
+    × ((first : List (List ℕ)) → columns l.initial.s ≡ rounds (schedule l.keys) 0 first → columns l.s ≡ rounds (schedule l.keys) (l.n - 1) first)

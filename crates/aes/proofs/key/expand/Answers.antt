@@ -2,7 +2,7 @@
 -- Assumes nothing.
 use mathlib.Core.Path.{◌≡◌, refl, sym, ap, ◌∙◌}
 use mathlib.Core.List.{List}
-use Prim.Native.Nat.{ℕ, ◌-◌}
+use Prim.Native.Nat.{ℕ}
 use native.Mathlib.Omega.{arith}
 use lib.ListN.{length-set}
 use lib.Seq.{take_all}
@@ -22,8 +22,8 @@ pub loop-i-preserved : goal.loop-i-preserved
 loop-i-preserved c =
     let turn = c.loop-i in (
       omega arith,
-      length-set turn.w turn.i c.next_word-v.result ∙ turn.invariant.1,
-      words_more c.args.key.now turn.w turn.i c.next_word-v.result (omega arith) turn.invariant.2 c.next_word-v.ensures,
+      length-set turn.w turn.i c.next_word.result ∙ turn.invariant.1,
+      words_more c.args.key.now turn.w turn.i c.next_word.result (omega arith) turn.invariant.2 c.next_word.ensures,
     )
 
 pub returns : goal.returns

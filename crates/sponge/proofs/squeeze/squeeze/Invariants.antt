@@ -1,12 +1,9 @@
--- `sponge::squeeze::squeeze` fills the output: after some turns the first i bytes are given out.
+-- `sponge::squeeze::squeeze` fills the output: after each turn a block more is given out, as far as there is room.
 -- Assumes nothing.
-use Prim.Native.Nat.{◌-◌}
+use Prim.Native.Nat.{◌*◌, min}
 use lib.ListN.{length}
 use Rattle.sponge.proofs.Squeezing.{Squeezing}
 use Rattle.sponge.proofs.squeeze.squeeze.Given as goal
 
-abbrev pub invariant-loop-i : goal.invariant-loop-i
-invariant-loop-i l = Squeezing l.initial.a l.initial.out l.a l.out l.i
-
-abbrev pub decreases-loop-i : goal.decreases-loop-i
-decreases-loop-i l = length l.initial.out - l.i
+abbrev pub invariant-loop-turn : goal.invariant-loop-turn
+invariant-loop-turn l = Squeezing l.initial.a l.initial.out l.a l.out (min (136 * l.turn) (length l.initial.out))
