@@ -1,131 +1,98 @@
-// A script: lines of numbers, of which the first says what to do and the others with what. The comparison writes it beside what must be printed;
-// a program reads it from standard input, byte by byte, and so holds no more of it than a line.
+// A script: lines of numbers, of which the first is a command and the others its operands. The comparison writes it beside what must be printed; a program
+// reads it from standard input, and holds no more of it than a line.
 use std::io;
-use std::io::Read;
+use std::io::{Bytes, Read};
 
-// The next byte of the input, or 0 where that has ended.
-fn next_byte(input: &mut impl Read) -> io::Result<u8> {
-    let mut byte = [0u8];
-    let count = input.read(&mut byte)?;
-    Ok(if count == 0 { 0 } else { byte[0] })
+// What follows a number: another of its line, the next line, or the end of the script.
+#[derive(Clone, Copy, PartialEq, Eq)]
+enum Next {
+    Number,
+    Line,
+    End,
+}
+
+// The byte that ends a number tells.
+impl From<u8> for Next {
+    fn from(byte: u8) -> Next {
+        match byte {
+            0 => Next::End,
+            1..b' ' => Next::Line,
+            _ => Next::Number,
+        }
+    }
 }
 
 // A number with one digit more, or the largest number of 64 bits from 18,446,744,073,709,551,610 on.
+// The digits by hand, since `str::parse` refuses what a program takes: any byte from `0` on is a digit, and a number that is too large is the largest one.
 fn with_digit(value: usize, digit: u8) -> usize {
     if 1844674407370955161 <= value {
-        return 18446744073709551615;
+        return usize::MAX;
     }
-    value * 10 + (digit % 16) as usize
+    value * 10 + usize::from(digit % 16)
 }
 
-// A number of a script, and the byte that ended it.
-#[derive(Clone, Copy)]
-struct Number {
-    value: usize,
-    end: u8,
-}
-
-// The next number. A byte below those of the digits ends it; so do 32 digits, which no number has.
-fn next_number(input: &mut impl Read) -> io::Result<Number> {
-    let mut value: usize = 0;
-    let mut left: usize = 32;
-    while 0 < left {
-        let byte = next_byte(input)?;
-        if byte < b'0' {
-            return Ok(Number { value, end: byte });
+// The next number. A byte below those of the digits ends it; so do the end of the input and 32 digits, which no number has: they end the script too.
+fn next_number<R: Read + Drop>(bytes: &mut Bytes<R>) -> io::Result<(usize, Next)> {
+    let mut value = 0;
+    for byte in bytes.by_ref().take(32) {
+        match byte? {
+            digit @ b'0'.. => value = with_digit(value, digit),
+            end => return Ok((value, Next::from(end))),
         }
-        value = with_digit(value, byte);
-        left -= 1;
     }
-    Ok(Number { value, end: 0 })
+    Ok((value, Next::End))
 }
 
-// The numbers of a line, at most 16, with zeros after them, or the end of the script.
+// A command and its operands, with zeros after them.
 #[derive(Clone, Copy)]
 pub struct Line {
-    pub values: [usize; 16],
-    pub is_end: bool,
+    pub command: usize,
+    pub operands: [usize; 15],
 }
 
-// The next line.
-pub fn next_line(input: &mut impl Read) -> io::Result<Line> {
-    let mut values = [0usize; 16];
-    let mut i: usize = 0;
-    while i < 16 {
-        let number = next_number(input)?;
-        values[i] = number.value;
-        if number.end < b' ' {
-            return Ok(Line {
-                values,
-                is_end: number.end == 0,
-            });
+impl Line {
+    // Prints the text whose bytes the operands are, up to the first 0.
+    pub fn print_text(self, rt: &impl Print) -> io::Result<()> {
+        for operand in self.operands.iter().take_while(|x| **x != 0) {
+            rt.write_all(&[crate::low_byte(*operand)])?;
         }
-        i += 1;
-    }
-    Ok(Line {
-        values,
-        is_end: true,
-    })
-}
-
-// The first numbers of a line by name, the command's own and ten operands: in a proof a field is read in one step, an entry of an array in several.
-#[derive(Clone, Copy)]
-pub struct Command {
-    pub number: usize,
-    pub one: usize,
-    pub two: usize,
-    pub three: usize,
-    pub four: usize,
-    pub five: usize,
-    pub six: usize,
-    pub seven: usize,
-    pub eight: usize,
-    pub nine: usize,
-    pub ten: usize,
-}
-
-// Those of a line.
-pub fn command_of(line: [usize; 16]) -> Command {
-    Command {
-        number: line[0],
-        one: line[1],
-        two: line[2],
-        three: line[3],
-        four: line[4],
-        five: line[5],
-        six: line[6],
-        seven: line[7],
-        eight: line[8],
-        nine: line[9],
-        ten: line[10],
+        Ok(())
     }
 }
 
-// Prints the text whose bytes stand after the command of a line, up to the first 0.
-pub fn text(rt: &impl Print, line: [usize; 16]) -> io::Result<()> {
-    let mut i: usize = 1;
-    while i < 16 {
-        if line[i] == 0 {
-            return Ok(());
+// The next line, of at most 16 numbers; none at the end of the script.
+fn next_line<R: Read + Drop>(bytes: &mut Bytes<R>) -> io::Result<Option<Line>> {
+    let (command, mut next) = next_number(bytes)?;
+    let mut operands = [0; 15];
+    for operand in operands.iter_mut() {
+        if next != Next::Number {
+            break;
         }
-        let byte = [crate::low_byte(line[i])];
-        crate::text(rt, &byte)?;
-        i += 1;
+        (*operand, next) = next_number(bytes)?;
     }
-    Ok(())
+    Ok((next == Next::Line).then_some(Line { command, operands }))
 }
 
-// Prints the first operands of a line, each after a space.
-pub fn operands(rt: &impl Print, line: [usize; 16], count: usize) -> io::Result<()> {
-    let mut i: usize = 1;
-    while i < 16 {
-        if count < i {
-            return Ok(());
+// The lines of a script that a reader holds.
+#[derive(Drop)]
+pub struct Script<R> {
+    bytes: Bytes<R>,
+}
+
+impl<R: Read + Drop> Script<R> {
+    pub fn new(input: R) -> Script<R> {
+        Script {
+            bytes: input.bytes(),
         }
-        crate::number(rt, line[i] as u64)?;
-        i += 1;
     }
-    Ok(())
+}
+
+impl<R: Read + Drop> Iterator for Script<R> {
+    type Item = io::Result<Line>;
+
+    fn next(&mut self) -> Option<io::Result<Line>> {
+        next_line(&mut self.bytes).transpose()
+    }
 }
 
 // The lowest 32 bits of an operand.

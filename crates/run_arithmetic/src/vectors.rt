@@ -5,8 +5,7 @@ ghost use Rattle.std.specs.Prelude.{◌≡◌, true, ◌+◌, ◌≤◌, length}
 ghost use Rattle.sets.specs.Table.{Listed};
 ghost use Rattle.ntt_products.specs.Placed.{Placed, table_length_of};
 
-use crate::fills;
-use report::script::Command;
+use report::script::Line;
 use sets::Parameters;
 use std::io;
 
@@ -34,9 +33,19 @@ fn ready(p: Parameters, i: usize, n: usize, tables: &[u32], x: &[u32]) -> bool
     n <= calls::first_at_least(x, p.q)
 }
 
-// Sends the first `n` numbers with the root, and prints the checksum.
-fn send(
+// Sending of a vector with a root or its inverse, and recovery of a vector that was sent with either.
+#[derive(Clone, Copy)]
+pub enum Transform {
+    Send,
+    SendInverse,
+    Recover,
+    RecoverInverse,
+}
+
+// Transforms the first `n` numbers of a vector, or recovers all, and prints the checksum.
+fn transform_first(
     rt: &impl Print,
+    transform: Transform,
     p: Parameters,
     i: usize,
     n: usize,
@@ -45,67 +54,30 @@ fn send(
 ) -> io::Result<()>
     requires { Listed p }
 {
+    let n = match transform {
+        Transform::Send | Transform::SendInverse => n,
+        Transform::Recover | Transform::RecoverInverse => x.len(),
+    };
     if ready(p, i, n, tables, x) {
-        ntt_products::load_tables(p, i, tables);
-        ntt_products::send_first(p, i, tables, x, n);
-        report::number_sum(rt, x)?;
-    }
-    Ok(())
-}
-
-// The same with the inverse of the root.
-fn send_inverse(
-    rt: &impl Print,
-    p: Parameters,
-    i: usize,
-    n: usize,
-    tables: &mut [u32],
-    x: &mut [u32],
-) -> io::Result<()>
-    requires { Listed p }
-{
-    if ready(p, i, n, tables, x) {
-        ntt_products::load_inverse_tables(p, i, tables);
-        ntt_products::send_first_inverse(p, i, tables, x, n);
-        report::number_sum(rt, x)?;
-    }
-    Ok(())
-}
-
-// Recovers a vector that was sent with the root, and prints the checksum.
-fn recover(
-    rt: &impl Print,
-    p: Parameters,
-    i: usize,
-    tables: &mut [u32],
-    x: &mut [u32],
-) -> io::Result<()>
-    requires { Listed p }
-{
-    let size = x.len();
-    if ready(p, i, size, tables, x) {
-        ntt_products::load_inverse_tables(p, i, tables);
-        ntt_products::recover_first(p, i, tables, x, size);
-        report::number_sum(rt, x)?;
-    }
-    Ok(())
-}
-
-// The same of a vector that was sent with the inverse of the root.
-fn recover_inverse(
-    rt: &impl Print,
-    p: Parameters,
-    i: usize,
-    tables: &mut [u32],
-    x: &mut [u32],
-) -> io::Result<()>
-    requires { Listed p }
-{
-    let size = x.len();
-    if ready(p, i, size, tables, x) {
-        ntt_products::load_tables(p, i, tables);
-        ntt_products::recover_first_inverse(p, i, tables, x, size);
-        report::number_sum(rt, x)?;
+        match transform {
+            Transform::Send => {
+                ntt_products::load_tables(p, i, tables);
+                ntt_products::send_first(p, i, tables, x, n);
+            }
+            Transform::SendInverse => {
+                ntt_products::load_inverse_tables(p, i, tables);
+                ntt_products::send_first_inverse(p, i, tables, x, n);
+            }
+            Transform::Recover => {
+                ntt_products::load_inverse_tables(p, i, tables);
+                ntt_products::recover_first(p, i, tables, x, n);
+            }
+            Transform::RecoverInverse => {
+                ntt_products::load_tables(p, i, tables);
+                ntt_products::recover_first_inverse(p, i, tables, x, n);
+            }
+        }
+        print!(rt; " {}", report::checksum(x))?;
     }
     Ok(())
 }
@@ -138,46 +110,44 @@ fn correlate(
         let m = settled(size, n);
         ntt_products::load_tables(p, i, tables);
         ntt_products::correlate(p, i, tables, x, n, stored, m);
-        report::number_sum(rt, report::numbers(x, 0, m))?;
+        print!(rt; " {}", report::checksum(report::front(x, m)))?;
     }
     Ok(())
 }
 
 // The same of two vectors of the store, the first of which is copied.
-pub fn correlation(rt: &impl Print, line: Command, numbers: &[u32]) -> io::Result<()> {
+pub fn correlation(rt: &impl Print, line: Line, numbers: &[u32]) -> io::Result<()> {
+    let [set, i, n, entries, size, ..] = line.operands;
     let mut tables = [0u32; 3605];
     let mut x = [0u32; 3328];
-    fills::copy(&mut x, report::numbers(numbers, crate::A, 3328));
+    report::repeat(&mut x, report::part(numbers, crate::A, 3328));
     correlate(
         rt,
-        record_of(line.one),
-        line.two,
-        line.three,
-        report::numbers_mut(&mut tables, 0, line.four),
-        report::numbers_mut(&mut x, 0, line.five),
-        report::numbers(numbers, crate::B, line.five),
+        record_of(set),
+        i,
+        n,
+        report::front_mut(&mut tables, entries),
+        report::front_mut(&mut x, size),
+        report::part(numbers, crate::B, size),
     )
 }
 
-// One of the four transforms of a vector.
-fn one_way(rt: &impl Print, line: Command, tables: &mut [u32], x: &mut [u32]) -> io::Result<()> {
-    let p = record_of(line.one);
-    let number = line.number;
-    match number {
-        12 => send(rt, p, line.two, line.three, tables, x),
-        13 => send_inverse(rt, p, line.two, line.three, tables, x),
-        14 => recover(rt, p, line.two, tables, x),
-        _ => recover_inverse(rt, p, line.two, tables, x),
-    }
-}
-
-// The same of a vector of the store.
-pub fn transform(rt: &impl Print, line: Command, numbers: &mut [u32]) -> io::Result<()> {
+// A transform of a vector of the store.
+pub fn transform_stored(
+    rt: &impl Print,
+    transform: Transform,
+    line: Line,
+    numbers: &mut [u32],
+) -> io::Result<()> {
+    let [set, i, n, entries, size, ..] = line.operands;
     let mut tables = [0u32; 3605];
-    one_way(
+    transform_first(
         rt,
-        line,
-        report::numbers_mut(&mut tables, 0, line.four),
-        report::numbers_mut(numbers, crate::A, line.five),
+        transform,
+        record_of(set),
+        i,
+        n,
+        report::front_mut(&mut tables, entries),
+        report::part_mut(numbers, crate::A, size),
     )
 }

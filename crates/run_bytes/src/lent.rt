@@ -1,76 +1,62 @@
-// The draws over lent bytes, the first of the store.
-use report::script;
+// The draws over lent bytes, the first of the store. The checksums cover the numbers past the results too, which stay as they were.
+use report::script::Line;
 use std::io;
 
-// Residues: set, bytes lent, results wanted, and the first candidate that is set aside and how many are. The checksum covers the numbers past the results
-// too, which stay as they were.
-pub fn residues(rt: &impl Print, line: [usize; 16], bytes: &[u8]) -> io::Result<()> {
+// Residues: set, bytes lent, results wanted, and the first candidate that is set aside and how many are.
+pub fn residues(rt: &impl Print, line: Line, bytes: &[u8]) -> io::Result<()> {
+    let [set, lent, wanted, ..] = line.operands;
     let mut out = [7u32; 4097];
     let answer = lent_draws::residues(
-        line[1],
-        report::front(bytes, line[2]),
-        report::numbers_mut(&mut out, 0, line[3]),
+        set,
+        report::front(bytes, lent),
+        report::front_mut(&mut out, wanted),
     );
-    report::text(rt, b"residues")?;
-    script::operands(rt, line, 5)?;
-    report::answer(rt, answer)?;
-    report::work_end(rt, &out)
+    report::call(rt, "residues", &line.operands[..5], answer)?;
+    println!(rt; " {}", report::checksum(&out))
 }
 
 // Errors: set, bytes lent and results wanted.
-fn errors(rt: &impl Print, line: [usize; 16], bytes: &[u8], out: &mut [i32]) -> io::Result<()> {
+fn errors(rt: &impl Print, line: Line, bytes: &[u8], out: &mut [i32]) -> io::Result<()> {
+    let [set, lent, wanted, ..] = line.operands;
     let answer = lent_draws::errors(
-        line[1],
-        report::front(bytes, line[2]),
-        report::signed_mut(out, 0, line[3]),
+        set,
+        report::front(bytes, lent),
+        report::front_mut(out, wanted),
     );
-    report::text(rt, b"errors")?;
-    script::operands(rt, line, 3)?;
-    report::answer(rt, answer)?;
-    report::signed_sum(rt, out)?;
-    report::end(rt)
+    report::call(rt, "errors", &line.operands[..3], answer)?;
+    println!(rt; " {}", report::checksum(out))
 }
 
 // Multipliers: set, bytes lent, first position and results wanted, which stand after those of the errors.
-fn multipliers(
-    rt: &impl Print,
-    line: [usize; 16],
-    bytes: &[u8],
-    out: &mut [i32],
-) -> io::Result<()> {
+fn multipliers(rt: &impl Print, line: Line, bytes: &[u8], out: &mut [i32]) -> io::Result<()> {
+    let [_, _, _, set, lent, first, wanted, ..] = line.operands;
     let answer = lent_draws::multipliers(
-        line[4],
-        report::front(bytes, line[5]),
-        line[6],
-        report::signed_mut(out, 0, line[7]),
+        set,
+        report::front(bytes, lent),
+        first,
+        report::front_mut(out, wanted),
     );
-    report::text(rt, b"multipliers")?;
-    report::number(rt, line[4] as u64)?;
-    report::number(rt, line[5] as u64)?;
-    report::number(rt, line[6] as u64)?;
-    report::number(rt, line[7] as u64)?;
-    report::answer(rt, answer)?;
-    report::signed_sum(rt, out)?;
-    report::end(rt)
+    report::call(rt, "multipliers", &line.operands[3..7], answer)?;
+    println!(rt; " {}", report::checksum(out))
 }
 
-// Errors, and multipliers over them.
-fn both(rt: &impl Print, line: [usize; 16], bytes: &[u8], out: &mut [i32]) -> io::Result<()> {
-    errors(rt, line, bytes, out)?;
-    multipliers(rt, line, bytes, out)
+// The draws of signed numbers that a line asks for.
+#[derive(Clone, Copy)]
+pub enum Draws {
+    Errors,
+    Multipliers,
+    Both,
 }
 
-// Either of them, or both.
-fn chosen(rt: &impl Print, line: [usize; 16], bytes: &[u8], out: &mut [i32]) -> io::Result<()> {
-    match line[0] {
-        10 => errors(rt, line, bytes, out),
-        11 => multipliers(rt, line, bytes, out),
-        _ => both(rt, line, bytes, out),
-    }
-}
-
-// The same over 7s.
-pub fn small(rt: &impl Print, line: [usize; 16], bytes: &[u8]) -> io::Result<()> {
+// Errors, multipliers, or multipliers over errors, over 7s.
+pub fn signed(rt: &impl Print, draws: Draws, line: Line, bytes: &[u8]) -> io::Result<()> {
     let mut out = [7i32; 4097];
-    chosen(rt, line, bytes, &mut out)
+    match draws {
+        Draws::Errors => errors(rt, line, bytes, &mut out),
+        Draws::Multipliers => multipliers(rt, line, bytes, &mut out),
+        Draws::Both => {
+            errors(rt, line, bytes, &mut out)?;
+            multipliers(rt, line, bytes, &mut out)
+        }
+    }
 }

@@ -6,49 +6,100 @@ mod lent;
 mod seeded;
 mod sponges;
 
+use lent::Draws;
+use report::script::{Line, Script};
 use std::io;
 use std::io::Read;
 
-// Fills a part of a store, a place and so many bytes: with a pattern, with one byte, or with the random bytes of a group and a slice.
-fn fill(line: [usize; 16], bytes: &mut [u8]) {
-    let part = report::part_mut(bytes, line[1], line[2]);
-    match line[0] {
-        1 | 4 => report::fill_bytes(part, line[3]),
-        2 | 5 => report::repeat(part, &[report::low_byte(line[3])]),
-        _ => report::random::fill(part, line[3], line[4]),
+// What a part of a store is filled with: a pattern, one byte, or the random bytes of a group and a slice.
+#[derive(Clone, Copy)]
+enum Filling {
+    Pattern,
+    Byte,
+    Random,
+}
+
+// What a line asks for.
+#[derive(Clone, Copy)]
+enum Command {
+    Text,
+    FillBytes(Filling),
+    FillOut(Filling),
+    Shake,
+    Kmac,
+    KmacXof,
+    LentResidues,
+    Lent(Draws),
+    Residues,
+    Errors,
+    Multipliers,
+    Blocks,
+}
+
+// The first number of a line tells.
+impl From<usize> for Command {
+    fn from(number: usize) -> Command {
+        match number {
+            0 => Command::Text,
+            1 => Command::FillBytes(Filling::Pattern),
+            2 => Command::FillBytes(Filling::Byte),
+            3 => Command::FillBytes(Filling::Random),
+            4 => Command::FillOut(Filling::Pattern),
+            5 => Command::FillOut(Filling::Byte),
+            6 => Command::Shake,
+            7 => Command::Kmac,
+            8 => Command::KmacXof,
+            9 => Command::LentResidues,
+            10 => Command::Lent(Draws::Errors),
+            11 => Command::Lent(Draws::Multipliers),
+            12 => Command::Lent(Draws::Both),
+            13 => Command::Residues,
+            14 => Command::Errors,
+            15 => Command::Multipliers,
+            _ => Command::Blocks,
+        }
     }
 }
 
-// Runs one line of the script: its first number says what to do.
-fn step(rt: &impl Print, line: [usize; 16], bytes: &mut [u8], out: &mut [u8]) -> io::Result<()> {
-    match line[0] {
-        0 => report::script::text(rt, line),
-        1 | 2 | 3 => {
-            fill(line, bytes);
-            Ok(())
-        }
-        4 | 5 => {
-            fill(line, out);
-            Ok(())
-        }
-        6 | 7 | 8 => sponges::step(rt, line, bytes, out),
-        9 => lent::residues(rt, line, bytes),
-        10 | 11 | 12 => lent::small(rt, line, bytes),
-        _ => seeded::step(rt, line, bytes),
+// Fills a part of a store: a place, how many bytes, and what the filling is told.
+fn fill(filling: Filling, line: Line, store: &mut [u8]) {
+    let [place, count, told, slice, ..] = line.operands;
+    let part = report::part_mut(store, place, count);
+    match filling {
+        Filling::Pattern => report::fill_bytes(part, told),
+        Filling::Byte => part.fill(report::low_byte(told)),
+        Filling::Random => report::random::fill(part, told, slice, report::low_byte),
     }
+}
+
+// Runs one line of the script.
+fn step(rt: &impl Print, line: Line, bytes: &mut [u8], out: &mut [u8]) -> io::Result<()> {
+    match Command::from(line.command) {
+        Command::Text => line.print_text(rt)?,
+        Command::FillBytes(filling) => fill(filling, line, bytes),
+        Command::FillOut(filling) => fill(filling, line, out),
+        Command::Shake => sponges::shake(rt, line, bytes, out)?,
+        Command::Kmac => sponges::keyed(rt, "kmac256", line, bytes, out, hashes::kmac256)?,
+        Command::KmacXof => sponges::keyed(rt, "kmacxof256", line, bytes, out, hashes::kmacxof256)?,
+        Command::LentResidues => lent::residues(rt, line, bytes)?,
+        Command::Lent(draws) => lent::signed(rt, draws, line, bytes)?,
+        Command::Residues => seeded::residues(rt, line, bytes)?,
+        Command::Errors => seeded::errors(rt, line, bytes)?,
+        Command::Multipliers => seeded::multipliers(rt, line, bytes)?,
+        Command::Blocks => seeded::two_blocks(rt, line, bytes)?,
+    }
+    Ok(())
 }
 
 // Runs every line, of at most a million.
-fn run(rt: &impl Print, input: &mut impl Read, bytes: &mut [u8], out: &mut [u8]) -> io::Result<()> {
-    let mut left: usize = 1000000;
-    while 0 < left {
-        let line = report::script::next_line(input)?;
-        if line.is_end {
-            return Ok(());
-        }
-        let values = line.values;
-        step(rt, values, bytes, out)?;
-        left -= 1;
+fn run<R: Read + Drop>(
+    rt: &impl Print,
+    input: R,
+    bytes: &mut [u8],
+    out: &mut [u8],
+) -> io::Result<()> {
+    for line in Script::new(input).take(1000000) {
+        step(rt, line?, bytes, out)?;
     }
     Ok(())
 }
@@ -56,5 +107,5 @@ fn run(rt: &impl Print, input: &mut impl Read, bytes: &mut [u8], out: &mut [u8])
 fn main(rt: HostRuntime) -> io::Result<()> {
     let mut bytes = [0u8; 65537];
     let mut out = [0u8; 65537];
-    run(&rt, &mut rt.stdin(), &mut bytes, &mut out)
+    run(&rt, rt.stdin(), &mut bytes, &mut out)
 }

@@ -59,21 +59,12 @@ fn fits(place: usize, byte: u8) -> bool
 pub fn first_unfit(input: &[u8]) -> usize
     ensures { result ≡ passing bench_fits 0 input.now }
 {
-    let mut i: usize = 0;
-    while i < input.len() {
-        if !fits(i, input[i]) {
+    for (i, byte) in input.iter().enumerate() {
+        if !fits(i, *byte) {
             return i;
         }
-        i += 1;
     }
-    i
-}
-
-// A byte as a number.
-fn wide(byte: u8) -> u32
-    ensures { result ≡ byte }
-{
-    byte as u32
+    input.len()
 }
 
 // Fills `out` with the numbers from `from` on.
@@ -81,10 +72,8 @@ pub fn copy_numbers(input: &[u8], from: usize, out: &mut [u32])
     requires { from + length out.old ≤ length input.now }
     ensures { out.new ≡ region input.now from (length out.old) }
 {
-    let mut i: usize = 0;
-    while i < out.len() {
-        out[i] = wide(input[from + i]);
-        i += 1;
+    for (i, number) in out.iter_mut().enumerate() {
+        *number = u32::from(input[from + i]);
     }
 }
 
@@ -93,9 +82,7 @@ pub fn copy_signed(input: &[u8], from: usize, out: &mut [i32])
     requires { from + length out.old ≤ length input.now }
     ensures { out.new ≡ map signed (region input.now from (length out.old)) }
 {
-    let mut i: usize = 0;
-    while i < out.len() {
-        out[i] = signed(input[from + i]);
-        i += 1;
+    for (i, number) in out.iter_mut().enumerate() {
+        *number = signed(input[from + i]);
     }
 }

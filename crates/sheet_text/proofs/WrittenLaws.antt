@@ -1,13 +1,13 @@
 -- Laws of a text written into a list: nothing, one byte, and one text after another.
 -- Assumes nothing.
-use mathlib.Core.Path.{◌≡◌, refl, sym, ◌∙◌}
+use mathlib.Core.Path.{◌≡◌, refl, sym, ap, ◌∙◌}
 use mathlib.Core.List.{List, [], ◌∷◌, ◌++◌, append-nil}
 use Prim.Native.Nat.{ℕ, suc, ◌+◌, ◌≤◌}
 use native.Mathlib.Omega.{arith}
 use lib.ListN.{length, set, take, drop, length-append, length-set, take-append-drop}
 use lib.Seq.{set_split, append_snoc}
-use Rattle.calls.proofs.Region.{over_append, over_parts}
-use Rattle.calls.proofs.Filled.{Filled, filled_all}
+use Rattle.calls.specs.Region.{over}
+use Rattle.calls.proofs.Region.{over_append, over_length, over_parts}
 use Rattle.sheet_text.specs.Written.{Written}
 
 -- nothing is written
@@ -49,12 +49,11 @@ written_append {old} {at} {one} {middle} {next} {two} {new} {last} f g =
 pub written_as : {old : List ℕ} {at : ℕ} {one two new : List ℕ} {next : ℕ} → one ≡ two → Written old at one new next → Written old at two new next
 written_as e f = rw (← e) f
 
--- a slice that was filled with the text
-pub written_filled :
-    {old : List ℕ} {at : ℕ} {text new : List ℕ} {i : ℕ} →
-    Filled old at (length text) text i new → length text ≤ i → Written old at text new (at + i)
-written_filled {at = at} f h =
-    record { room = f.room; after = omega arith; kept_length = f.kept_length; written = filled_all f h }
+-- the text is copied into its place
+pub written_over : {old : List ℕ} {at : ℕ} {text new : List ℕ} → at + length text ≤ length old → new ≡ over old at text
+    → Written old at text new (at + length text)
+written_over {old} {at} {text} h e =
+    record { room = h; after = refl; kept_length = ap length e ∙ over_length old at text h; written = e }
 
 -- there is room for the first of two texts
 pub room_front : (at : ℕ) {room : ℕ} (one two : List ℕ) → at + length (one ++ two) ≤ room → at + length one ≤ room

@@ -32,15 +32,12 @@ fn put_rows(
     ensures { Written out.old at (rows noise.now sent.now read.now places.now)
         out.new result }
 {
-    let mut next = at;
-    let mut i: usize = 0;
-    while i < places.len() {
-        let place = places[i];
-        let end = put_row(place, noise[place], sent[place], read[place], next, out);
-        next = end;
-        i += 1;
+    let mut end = at;
+    for place in places {
+        let place = *place;
+        end = put_row(place, noise[place], sent[place], read[place], end, out);
     }
-    next
+    end
 }
 
 // The last line: the ceiling and the half modulus.

@@ -12,6 +12,6 @@ positive p all = omega (arith, all.odd)
 
 pub returns : goal.returns
 returns c =
-    let known = c.within-known in
-    let all = set_rules known.result (omega (arith, known.ensures.1)) in
-    rw c.parameters_of.ensures (all, byte_rules known.result known.ensures.0 (omega (arith, known.ensures.1)), positive _ all)
+    let known = c.clamp.result in
+    let all = set_rules known (omega arith) in
+    rw c.parameters_of.ensures (all, byte_rules known (omega arith) (omega arith), positive _ all)

@@ -1,7 +1,6 @@
 -- `sheet_bench::bytes::copy_numbers` meets its contract: each turn writes the next number.
 -- Assumes nothing.
 use mathlib.Core.Path.{refl, sym, ◌∙◌}
-use Prim.Native.Nat.{◌-◌}
 use native.Mathlib.Omega.{arith}
 use lib.ListN.{length}
 use Rattle.calls.proofs.Filled.{filled_none, filled_more, filled_whole}
@@ -16,7 +15,7 @@ pub loop-i-preserved : goal.loop-i-preserved
 loop-i-preserved c =
     let at = c.loop-i in
     filled_more 0 at.invariant (omega arith) (omega arith)
-    (c.wide.ensures ∙ sym (region_entry c.args.input.now c.args.from (length c.args.out.now) at.i 0 (omega arith)))
+    (c.from.ensures ∙ sym (region_entry c.args.input.now c.args.from (length c.args.out.now) at.i 0 (omega arith)))
 
 pub returns : goal.returns
 returns c = filled_whole c.loop-i.invariant refl (omega arith)

@@ -1,6 +1,5 @@
 -- `sheet_bench::bytes::copy_numbers` meets its contract: each turn writes the next number.
 -- Assumes nothing.
-use Prim.Native.Nat.{◌-◌}
 use lib.ListN.{length}
 use Rattle.calls.specs.Region.{region}
 use Rattle.calls.proofs.Filled.{Filled}
@@ -8,6 +7,3 @@ use Rattle.sheet_bench.proofs.bytes.copy_numbers.Given as goal
 
 abbrev pub invariant-loop-i : goal.invariant-loop-i
 invariant-loop-i l = Filled l.initial.out 0 (length l.initial.out) (region l.input l.from (length l.initial.out)) l.i l.out
-
-abbrev pub decreases-loop-i : goal.decreases-loop-i
-decreases-loop-i l = length l.initial.out - l.i

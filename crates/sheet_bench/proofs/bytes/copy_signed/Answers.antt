@@ -1,7 +1,6 @@
 -- `sheet_bench::bytes::copy_signed` meets its contract: each turn writes the next number.
 -- Assumes nothing.
 use mathlib.Core.Path.{refl, sym, ◌∙◌}
-use Prim.Native.Nat.{◌-◌}
 use native.Mathlib.Omega.{arith}
 use lib.ListN.{length}
 use Rattle.calls.proofs.Filled.{filled_none, filled_more, filled_whole}

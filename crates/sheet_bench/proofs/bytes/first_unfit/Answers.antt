@@ -2,9 +2,9 @@
 -- Assumes nothing.
 use mathlib.Core.Path.{sym, ◌∙◌}
 use mathlib.Core.Bool.{true}
-use Prim.Native.Nat.{◌-◌}
 use native.Mathlib.Nat.{zero-add}
 use native.Mathlib.Omega.{arith}
+use lib.ListN.{length}
 use borrow.Author.Count.{below_none, below_more}
 use Rattle.calls.proofs.Checks.{passing_is}
 use Rattle.sheet_bench.specs.Bench.{bench_fits}
@@ -25,5 +25,5 @@ loop-i-preserved c = (search rules, below_more _ _ c.loop-i.invariant.1 (sym c.f
 
 pub returns : goal.returns
 returns c =
-    let at = c.loop-i in
-    passing_is bench_fits 0 c.args.input.now 0 at.i at.invariant.0 (λ k h. rw zero-add (at.invariant.1 k h)) (λ h. absurd (omega arith))
+    passing_is bench_fits 0 c.args.input.now 0 (length c.args.input.now) (omega arith) (λ k h. rw zero-add (c.loop-i.invariant.1 k (omega arith)))
+    (λ h. absurd (omega arith))

@@ -1,16 +1,9 @@
--- `sheet_text::append::put_bytes` meets its contract: after i turns the first i bytes stand in place.
+-- `sheet_text::append::put_bytes` meets its contract: the bytes are copied into place.
 -- Assumes nothing.
 use mathlib.Core.Path.{refl}
-use Prim.Native.Nat.{◌-◌}
-use Rattle.calls.proofs.Filled.{filled_none, filled_more}
-use Rattle.sheet_text.proofs.WrittenLaws.{written_filled}
+use Rattle.calls.proofs.Region.{over_lent}
+use Rattle.sheet_text.proofs.WrittenLaws.{written_over}
 use Rattle.sheet_text.proofs.append.put_bytes.Goals as goal
 
-pub loop-i-init : goal.loop-i-init
-loop-i-init c = filled_none refl c.requires
-
-pub loop-i-preserved : goal.loop-i-preserved
-loop-i-preserved c = filled_more 0 c.loop-i.invariant c.loop-i-test.true refl refl
-
 pub returns : goal.returns
-returns c = written_filled c.loop-i.invariant c.loop-i-test.false
+returns c = written_over c.requires (rw c.copy_from_slice.ensures.after (over_lent c.args.out.now c.args.at c.args.text.now _ refl))

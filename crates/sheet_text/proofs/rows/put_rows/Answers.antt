@@ -12,38 +12,35 @@ use Rattle.sheet_text.proofs.WrittenLaws.{written_none, written_append, written_
 use Rattle.sheet_text.proofs.TextLaws.{row_of, rows_none, rows_more, rows_front}
 use Rattle.sheet_text.proofs.rows.put_rows.Goals as goal
 
-pub loop-i-init : goal.loop-i-init
-loop-i-init c = (
-  written_as (sym (rows_none c.args.noise.now c.args.sent.now c.args.read.now c.args.places.now))
-      (written_none (omega (arith, c.requires.2))),
-  omega arith,
-)
+pub loop-place-init : goal.loop-place-init
+loop-place-init c =
+    written_as (sym (rows_none c.args.noise.now c.args.sent.now c.args.read.now c.args.places.now)) (written_none (omega (arith, c.requires.2)))
 
 pub offset_bounds-noise-place : goal.offset_bounds-noise-place
 offset_bounds-noise-place c =
-    omega (arith, c.requires.1.below c.loop-i.i c.loop-i-test.true)
+    omega (arith, c.requires.1.below c.loop-place.place-index (omega arith))
 
 pub bounds-noise-place : goal.bounds-noise-place
 bounds-noise-place c =
-    c.requires.1.below c.loop-i.i c.loop-i-test.true
+    c.requires.1.below c.loop-place.place-index (omega arith)
 
 pub offset_bounds-sent-place : goal.offset_bounds-sent-place
 offset_bounds-sent-place c =
-    omega (arith, c.requires.1.below c.loop-i.i c.loop-i-test.true, c.requires.0.sent_length)
+    omega (arith, c.requires.1.below c.loop-place.place-index (omega arith), c.requires.0.sent_length)
 
 pub bounds-sent-place : goal.bounds-sent-place
 bounds-sent-place c =
-    omega (arith, c.requires.1.below c.loop-i.i c.loop-i-test.true, c.requires.0.sent_length)
+    omega (arith, c.requires.1.below c.loop-place.place-index (omega arith), c.requires.0.sent_length)
 
 pub offset_bounds-read-place : goal.offset_bounds-read-place
 offset_bounds-read-place c =
-    omega (arith, c.requires.1.below c.loop-i.i c.loop-i-test.true, c.requires.0.read_length)
+    omega (arith, c.requires.1.below c.loop-place.place-index (omega arith), c.requires.0.read_length)
 
 pub bounds-read-place : goal.bounds-read-place
 bounds-read-place c =
     omega (
       arith,
-      c.requires.1.below c.loop-i.i c.loop-i-test.true,
+      c.requires.1.below c.loop-place.place-index (omega arith),
       c.requires.0.read_length,
     )
 
@@ -54,30 +51,28 @@ put_row-end-requires c =
     let sent = c.args.sent.now in
     let read = c.args.read.now in
     let places = c.args.places.now in
-    let i = c.loop-i.i in
+    let i = c.loop-place.place-index in
     let place = get_or places i 0 in
-    let more = rows_more noise sent read places i c.loop-i-test.true in
+    let more = rows_more noise sent read places i (omega arith) in
     rw (entry_kept (get_or noise place (pos 0)) c.put_row-arg-1.given) (
       c.requires.0.sizes.small place,
-      room_next c.loop-i.invariant.0 (row_of noise sent read place)
+      room_next c.loop-place.invariant (row_of noise sent read place)
           (rw (← more) (omega (arith, rows_front noise sent read places (i + 1), c.requires.2))),
     )
 
-pub loop-i-preserved : goal.loop-i-preserved
-loop-i-preserved c =
+pub loop-place-preserved : goal.loop-place-preserved
+loop-place-preserved c =
     let noise = c.args.noise.now in
     let sent = c.args.sent.now in
     let read = c.args.read.now in
     let places = c.args.places.now in
-    let i = c.loop-i.i in
-    let more = rows_more noise sent read places i c.loop-i-test.true in (
-      written_as (sym more)
-          (written_append c.loop-i.invariant.0
-          (rw (entry_kept (get_or noise (get_or places i 0) (pos 0)) c.put_row-arg-1.given) at
-          c.put_row-end.ensures)),
-      omega arith,
-    )
+    let i = c.loop-place.place-index in
+    let more = rows_more noise sent read places i (omega arith) in
+    written_as (sym more)
+    (written_append c.loop-place.invariant
+    (rw (entry_kept (get_or noise (get_or places i 0) (pos 0)) c.put_row-arg-1.given) at
+    c.put_row-end.ensures))
 
 pub returns : goal.returns
 returns c =
-    rw (take_all c.loop-i.i c.args.places.now c.loop-i-test.false) at c.loop-i.invariant.0
+    rw (take_all c.loop-place.place-index c.args.places.now (omega arith)) at c.loop-place.invariant
