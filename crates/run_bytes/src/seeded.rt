@@ -74,7 +74,7 @@ fn next_block(set: usize, bytes: &[u8], done: usize, run: u32, out: &mut [u32]) 
     if done < out.len() && run < 128 && 3 <= bytes.len() {
         return samplers::block::continue_draw(bytes, p.q, p.zqrej, done, run, out);
     }
-    Progress::Reached(done, run)
+    Ok((done, run))
 }
 
 // Prints where a draw of 40 residues stands after each of two blocks of 384 bytes.
