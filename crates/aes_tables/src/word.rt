@@ -8,7 +8,7 @@ ghost use Rattle.aes_tables.specs.Words.{byte_of, word, columns};
 pub fn word_of(b0: u8, b1: u8, b2: u8, b3: u8) -> u32
     ensures { word result ≡ b0 ∷ b1 ∷ b2 ∷ b3 ∷ [] }
 {
-    (b0 as u32) + (b1 as u32) * 256 + (b2 as u32) * 65536 + (b3 as u32) * 16777216
+    u32::from_le_bytes([b0, b1, b2, b3])
 }
 
 // Four bytes of a slice as a word.
@@ -58,26 +58,14 @@ pub fn rotate_three(w: u32) -> u32
     w % 256 * 16777216 + w / 256
 }
 
-// The bytes of a word.
-fn word_bytes(w: u32) -> [u8; 4]
-    ensures { result ≡ word w }
-{
-    [
-        (w % 256) as u8,
-        (w / 256 % 256) as u8,
-        (w / 256 / 256 % 256) as u8,
-        (w / 256 / 256 / 256 % 256) as u8,
-    ]
-}
-
 // The block of a state.
 pub fn block_of(s: [u32; 4]) -> [u8; 16]
     ensures { result ≡ block_of (columns s) }
 {
-    let a = word_bytes(s[0]);
-    let b = word_bytes(s[1]);
-    let c = word_bytes(s[2]);
-    let d = word_bytes(s[3]);
+    let a = s[0].to_le_bytes();
+    let b = s[1].to_le_bytes();
+    let c = s[2].to_le_bytes();
+    let d = s[3].to_le_bytes();
     [
         a[0], a[1], a[2], a[3], b[0], b[1], b[2], b[3], c[0], c[1], c[2], c[3], d[0], d[1], d[2],
         d[3],

@@ -12,15 +12,7 @@ pub fn source_bytes(p: Parameters, seed: &[u8], counter: u32, out: &mut [u8]) ->
     ensures state { state_at seed.now result ≡ (output p (state_at seed.now counter) (length out.old)).next }
     ensures bytes { out.new ≡ (output p (state_at seed.now counter) (length out.old)).bytes }
 {
-    let c1 = counter / 256;
-    let c2 = c1 / 256;
-    let c3 = c2 / 256;
-    let input = [
-        (counter % 256) as u8,
-        (c1 % 256) as u8,
-        (c2 % 256) as u8,
-        (c3 % 256) as u8,
-    ];
+    let input = counter.to_le_bytes();
     sponge::kmacxof256_into(seed, &input, &[], out);
     counter + 1
 }

@@ -1,7 +1,7 @@
 // The permutation Keccak-f[1600] of FIPS 202. The lane A[x, y] of FIPS 202 is `a[y][x]`: five rows of five lanes.
 #![tactic(auto)]
 
-ghost use Rattle.std.specs.Prelude.{◌≡◌, [], ◌∷◌, ◌+◌, ◌*◌, ◌%◌, ◌<◌};
+ghost use Rattle.std.specs.Prelude.{◌≡◌, ◌+◌, ◌*◌, ◌%◌, ◌<◌};
 ghost use Rattle.maths.specs.Vector.{at};
 ghost use Rattle.keccak.specs.Lane.{◌⊕◌, ◌·◌, complement, rotl, five, lane};
 ghost use Rattle.keccak.specs.Keccak.{C, D, θ, ρ, π, χ, ι, keccak_f};
@@ -34,25 +34,17 @@ const ROUND_CONSTANTS: [u64; 24] = [
     0x8000000080008008,
 ];
 
-// A lane rotated left by n; the shift to the right goes in two steps, so that neither is by 64.
-fn rotate(n: u32, a: u64) -> u64
-    requires { n < 64 }
-    ensures { result ≡ rotl n a }
-{
-    (a << n) | ((a >> 1) >> (63 - n))
-}
-
 // Each lane of a row, rotated by its own offset.
-fn rotate_row(a: [u64; 5], n0: u32, n1: u32, n2: u32, n3: u32, n4: u32) -> [u64; 5]
-    requires { (n0 < 64) × (n1 < 64) × (n2 < 64) × (n3 < 64) × (n4 < 64) }
-    ensures { result ≡ five (λ x. rotl (at (n0 ∷ n1 ∷ n2 ∷ n3 ∷ n4 ∷ []) x) (at a x)) }
+fn rotate_row(a: [u64; 5], by: [u32; 5]) -> [u64; 5]
+    requires { (at by 0 < 64) × (at by 1 < 64) × (at by 2 < 64) × (at by 3 < 64) × (at by 4 < 64) }
+    ensures { result ≡ five (λ x. rotl (at by x) (at a x)) }
 {
     [
-        rotate(n0, a[0]),
-        rotate(n1, a[1]),
-        rotate(n2, a[2]),
-        rotate(n3, a[3]),
-        rotate(n4, a[4]),
+        a[0].rotate_left(by[0]),
+        a[1].rotate_left(by[1]),
+        a[2].rotate_left(by[2]),
+        a[3].rotate_left(by[3]),
+        a[4].rotate_left(by[4]),
     ]
 }
 
@@ -80,7 +72,7 @@ fn parity(a: [[u64; 5]; 5]) -> [u64; 5]
 fn mix_row(c: [u64; 5]) -> [u64; 5]
     ensures { result ≡ D c }
 {
-    let r = rotate_row(c, 1, 1, 1, 1, 1);
+    let r = rotate_row(c, [1; 5]);
     [
         c[4] ^ r[1],
         c[0] ^ r[2],
@@ -109,11 +101,11 @@ fn rho(a: [[u64; 5]; 5]) -> [[u64; 5]; 5]
     ensures { result ≡ ρ a }
 {
     [
-        rotate_row(a[0], 0, 1, 62, 28, 27),
-        rotate_row(a[1], 36, 44, 6, 55, 20),
-        rotate_row(a[2], 3, 10, 43, 25, 39),
-        rotate_row(a[3], 41, 45, 15, 21, 8),
-        rotate_row(a[4], 18, 2, 61, 56, 14),
+        rotate_row(a[0], [0, 1, 62, 28, 27]),
+        rotate_row(a[1], [36, 44, 6, 55, 20]),
+        rotate_row(a[2], [3, 10, 43, 25, 39]),
+        rotate_row(a[3], [41, 45, 15, 21, 8]),
+        rotate_row(a[4], [18, 2, 61, 56, 14]),
     ]
 }
 
