@@ -25,7 +25,7 @@ fn strided_sum(
     let mut total: u64 = 0;
     let mut place = first;
     let mut power: usize = 0;
-    for j in 0..count {
+    for _ in 0..count {
         total += residues::product(x[place], powers[power]);
         place += stride;
         power = residues::advance(power, step, powers.len());
