@@ -23,9 +23,11 @@ fn strided_sum(
     ensures { result ≡ strided_sum_of x.now first stride count powers.now step }
 {
     let mut total: u64 = 0;
+    let mut place = first;
     let mut power: usize = 0;
-    for j in 0..count {
-        total += residues::product(x[first + stride * j], powers[power]);
+    for _ in 0..count {
+        total += residues::product(x[place], powers[power]);
+        place += stride;
         power = residues::advance(power, step, powers.len());
     }
     total

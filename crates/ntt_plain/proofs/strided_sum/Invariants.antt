@@ -3,5 +3,5 @@
 use Rattle.ntt_plain.proofs.Sums.{Summing}
 use Rattle.ntt_plain.proofs.strided_sum.Given as goal
 
-abbrev pub invariant-loop-j : goal.invariant-loop-j
-invariant-loop-j l = Summing l.x l.first l.stride l.count l.powers l.step l.total l.power l.j
+abbrev pub invariant-loop : goal.invariant-loop
+invariant-loop l = Summing l.x l.first l.stride l.count l.powers l.step l.total l.place l.power l.counter
