@@ -1,11 +1,11 @@
 -- Laws of absorbing: what is fed in pieces is fed as a whole, a piece that leaves the block open, one that fills it, and the padding.
 -- Assumes nothing.
-use mathlib.Core.Path.{◌≡◌, refl, sym, ap, ap₂, subst, ◌∙◌}
+use mathlib.Core.Path.{◌≡◌, refl, sym, ap, ap₂, ◌∙◌}
 use mathlib.Core.List.{List, [], ◌∷◌, ◌++◌, append_assoc, append-nil}
 use Prim.Native.Nat.{ℕ, zero, suc, ◌+◌, ◌*◌, ◌/◌, ◌%◌, ◌-◌, ◌≤◌, ◌<◌, min}
 use native.Mathlib.Omega.{arith}
 use lib.ListN.{length, take, drop, replicate, length-append, length-take, length-drop, length-replicate, drop_of_length-le}
-use lib.Seq.{take-append-le, drop-append-le, take-add, take_all}
+use lib.Seq.{take-append-le, drop-append-le, take_all}
 use Rattle.calls.specs.Region.{region, over}
 use Rattle.calls.proofs.Region.{over_front, over_length, over_lent, over_append}
 use Rattle.keccak.specs.Keccak.{keccak_f}

@@ -1,8 +1,8 @@
 -- `sponge::kmac::first_digit` meets its contract: a number below 2^24 has one, two or three digits.
 -- Assumes nothing.
-use mathlib.Core.Path.{◌≡◌, sym, ap, ap₂, ◌∙◌}
-use mathlib.Core.List.{List, [], ◌∷◌}
-use Prim.Native.Nat.{ℕ, ◌/◌, ◌%◌, ◌≤◌, ◌<◌}
+use mathlib.Core.Path.{◌≡◌, sym, ap, ◌∙◌}
+use mathlib.Core.List.{[], ◌∷◌}
+use Prim.Native.Nat.{ℕ, ◌/◌, ◌%◌}
 use native.Mathlib.Omega.{arith}
 use Rattle.sponge.proofs.Encoding.{digits_one, digits_two, digits_three}
 use Rattle.sponge.proofs.kmac.first_digit.Goals as goal

@@ -1,7 +1,7 @@
 -- `sponge::squeeze::squeeze` fills the output: after each turn a block more is given out, as far as there is room.
 -- Assumes nothing.
 use mathlib.Core.Path.{◌≡◌}
-use Prim.Native.Nat.{◌+◌, ◌-◌, ◌*◌, ◌<◌, min}
+use Prim.Native.Nat.{◌+◌, ◌*◌, ◌<◌, min}
 use native.Mathlib.Nat.{sub-zero}
 use native.Mathlib.Omega.{arith}
 use lib.ListN.{length}

@@ -1,6 +1,6 @@
 -- `sponge::state::Sponge::feed` takes bytes in: what of them is taken and what is left, which begins with a block.
 -- Assumes nothing.
-use mathlib.Core.Path.{◌≡◌, ap, ◌∙◌}
+use mathlib.Core.Path.{ap, ◌∙◌}
 use Prim.Native.Nat.{ℕ, min}
 use native.Mathlib.Omega.{arith}
 use lib.ListN.{length}
