@@ -2,7 +2,8 @@
 // ciphertext.
 use crate::store;
 use calls::{Answer, Refusal};
-use report::script::Command;
+use report::Spaced;
+use report::script::Line;
 use std::io;
 
 // Reads a ciphertext of Titanium-CPA, where every slice has the set's length.
@@ -29,19 +30,20 @@ fn read(set: usize, seed: &[u8], sealed: &[u8], message: &mut [u8], work: &mut [
     cpa_decrypt::decrypt(p, seed, sealed, message, work)
 }
 
-// The same with the secret key and the ciphertext of the store; prints the answer, and keeps what is read. A line has the command, the set and the lengths of
-// the ciphertext and of the work slice.
-pub fn open(rt: &impl Print, line: Command, store: &mut [u8]) -> io::Result<()> {
+// The same with the secret key and the ciphertext of the store; prints the answer, and keeps what is read. A line has the set and the lengths of the ciphertext
+// and of the work slice.
+pub fn open(rt: &impl Print, line: Line, store: &mut [u8]) -> io::Result<()> {
+    let [set, sealed, lent, ..] = line.operands;
     let mut message = [0u8; 32];
     let mut work = [0u32; 25080];
     report::answer(
         rt,
         read(
-            line.one,
+            set,
             report::part(store, store::SECRET, 32),
-            report::part(store, store::SEALED, line.two),
+            report::part(store, store::SEALED, sealed),
             &mut message,
-            report::numbers_mut(&mut work, 0, line.three),
+            report::front_mut(&mut work, lent),
         ),
     )?;
     store::keep(store, store::OPENED, 32, &message);
@@ -82,18 +84,18 @@ fn write_unpacked(
     cpa_encrypt::numbers_before_packing(p, public, message, seed, out, work);
 }
 
-// Prints the first eight of them, of what the store holds. A line has the command, the set and the lengths of the public key and of the work slice.
-pub fn print_unpacked(rt: &impl Print, line: Command, store: &[u8]) -> io::Result<()> {
+// Prints the first eight of them, of what the store holds. A line has the set and the lengths of the public key and of the work slice.
+pub fn print_unpacked(rt: &impl Print, line: Line, store: &[u8]) -> io::Result<()> {
+    let [set, public, lent, ..] = line.operands;
     let mut numbers = [0u32; 256];
     let mut work = [0u32; 25080];
     write_unpacked(
-        line.one,
-        report::part(store, store::PUBLIC, line.two),
+        set,
+        report::part(store, store::PUBLIC, public),
         report::part(store, store::MESSAGE, 32),
         report::part(store, store::SEALING, 32),
         &mut numbers,
-        report::numbers_mut(&mut work, 0, line.three),
+        report::front_mut(&mut work, lent),
     );
-    report::words(rt, report::numbers(&numbers, 0, 8))?;
-    report::end(rt)
+    println!(rt; "{}", Spaced(&numbers[..8]))
 }

@@ -20,10 +20,8 @@ fn fill_noise(bytes: &[u8], noise: &mut [i64])
     requires { Sizes noise.old }
     ensures { Sizes noise.new }
 {
-    let mut j: usize = 0;
-    while j < noise.len() {
-        noise[j] = made_noise(report::byte_at(bytes, j));
-        j += 1;
+    for (j, number) in noise.iter_mut().enumerate() {
+        *number = made_noise(bytes.get(j).copied().unwrap_or(0));
     }
 }
 
@@ -39,7 +37,7 @@ fn print_noise(
 {
     fill_noise(bytes, noise);
     let written = sheet_text::write_sheet(noise, bits, bits, 0, 0, text);
-    report::text(rt, report::front(text, written))
+    rt.write_all(report::front(text, written))
 }
 
 // The sheet of sixteen places with made noise, which the first bytes of the store stand for; all bits are 0.
@@ -47,11 +45,5 @@ pub fn print_made(rt: &impl Print, store: &[u8]) -> io::Result<()> {
     let mut noise = [0i64; 16];
     let bits = [0u32; 16];
     let mut text = [0u8; 1024];
-    print_noise(
-        rt,
-        store,
-        &mut noise[0..16],
-        &bits[0..16],
-        &mut text[0..1024],
-    )
+    print_noise(rt, store, &mut noise, &bits, &mut text)
 }

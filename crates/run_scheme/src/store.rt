@@ -1,5 +1,6 @@
 // What the calls read and make stands in one store, so that every function takes one slice. Each part has one byte more than the largest of its kind.
-use report::script::Command;
+use report::script::Line;
+use report::{Hex, random};
 use std::io;
 
 // Where the key seed, the sealing seed, the message, the public key, the secret key, the ciphertext, what an opening gave and the sender's shared key begin;
@@ -22,12 +23,12 @@ pub const SHARED: usize = 62406;
 
 pub const END: usize = 62439;
 
-// Puts the bytes of a line, at most 13.
-pub fn put(line: [usize; 16], bytes: &mut [u8]) {
-    let mut i: usize = 0;
-    while i < 13 {
-        report::put_byte(bytes, i, report::low_byte(line[i + 3]));
-        i += 1;
+// Puts bytes of the line, at most 13, at a place.
+pub fn put(line: Line, store: &mut [u8]) {
+    let [place, count, ..] = line.operands;
+    let part = report::part_mut(store, place, count);
+    for (byte, value) in part.iter_mut().zip(&line.operands[2..]) {
+        *byte = report::low_byte(*value);
     }
 }
 
@@ -36,50 +37,38 @@ pub fn keep(store: &mut [u8], from: usize, n: usize, bytes: &[u8]) {
     report::repeat(report::part_mut(store, from, n), bytes);
 }
 
-// Fills a part of the store with a pattern, or with the random bytes of a group and a slice.
-pub fn fill(line: Command, bytes: &mut [u8]) {
-    if line.number == 1 {
-        report::fill_bytes(bytes, line.three);
-    } else {
-        report::random::fill(bytes, line.three, line.four);
-    }
-}
-
-// Fills a part of the store with the bytes of another, at most 32, again and again.
-pub fn repeat(line: Command, store: &mut [u8]) {
-    let mut bytes = [0u8; 32];
-    report::repeat(&mut bytes, report::part(store, line.three, line.four));
-    report::repeat(
-        report::part_mut(store, line.one, line.two),
-        report::front(&bytes, line.four),
+// Fills a part of the store with the random bytes of a group and a slice.
+pub fn fill_random(line: Line, store: &mut [u8]) {
+    let [place, count, group, slice, ..] = line.operands;
+    random::fill(
+        report::part_mut(store, place, count),
+        group,
+        slice,
+        report::low_byte,
     );
 }
 
-// Changes bits of the byte at a place that the slice has: those that `bits` has.
-pub fn flip(bytes: &mut [u8], place: usize, bits: u8) {
-    if place < bytes.len() {
-        bytes[place] = bytes[place] ^ bits;
+// Fills a part of the store with the bytes of another, at most 32, again and again.
+pub fn repeat(line: Line, store: &mut [u8]) {
+    let [place, count, from, period, ..] = line.operands;
+    let mut bytes = [0u8; 32];
+    report::repeat(&mut bytes, report::part(store, from, period));
+    report::repeat(
+        report::part_mut(store, place, count),
+        report::front(&bytes, period),
+    );
+}
+
+// Changes bits of the byte at a place that the store has: those that `bits` has.
+pub fn flip(store: &mut [u8], place: usize, bits: u8) {
+    if let Some(byte) = store.get_mut(place) {
+        *byte ^= bits;
     }
 }
 
-// Prints bytes in hexadecimal, and ends the line.
-fn print_hex(rt: &impl Print, bytes: &[u8]) -> io::Result<()> {
-    report::bytes(rt, bytes)?;
-    report::end(rt)
-}
-
-// The same of 32 bytes of SHAKE256 of bytes.
-fn print_digest(rt: &impl Print, bytes: &[u8]) -> io::Result<()> {
+// Prints 32 bytes of SHAKE256 of bytes in hexadecimal, and ends the line.
+pub fn print_digest(rt: &impl Print, bytes: &[u8]) -> io::Result<()> {
     let mut out = [0u8; 32];
     sponge::shake256_into(bytes, &mut out);
-    print_hex(rt, &out)
-}
-
-// Prints bytes as a text, in hexadecimal, or their digest.
-pub fn print(rt: &impl Print, number: usize, bytes: &[u8]) -> io::Result<()> {
-    match number {
-        5 => report::text(rt, bytes),
-        6 => print_hex(rt, bytes),
-        _ => print_digest(rt, bytes),
-    }
+    println!(rt; " {}", Hex(&out))
 }

@@ -37,10 +37,8 @@ fn fill(p: Parameters, multipliers: &[u32], errors: &[u32], before: &[u32], nois
     ensures { noise.new
         ≡ in_turn (λ j. centred_noise p multipliers.now errors.now (at before.now j) j) 0 p.d }
 {
-    let mut j: usize = 0;
-    while j < noise.len() {
-        noise[j] = noise_at(p, multipliers, errors, before[j], j);
-        j += 1;
+    for (j, number) in noise.iter_mut().enumerate() {
+        *number = noise_at(p, multipliers, errors, before[j], j);
     }
 }
 

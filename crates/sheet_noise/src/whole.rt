@@ -58,12 +58,9 @@ fn correlation_at(
     ensures { result ≡ centred_correlation half count multipliers.now first errors.now place }
 {
     let mut sum: i64 = 0;
-    let mut l: usize = 0;
-    while l < count {
+    for l in 0..count {
         let product = term(multipliers[first + l], errors[place + l], half);
-        let more = plus(sum, product);
-        sum = more;
-        l += 1;
+        sum = plus(sum, product);
     }
     sum
 }
@@ -77,12 +74,9 @@ pub fn product_noise(p: Parameters, half: u32, multipliers: &[u32], errors: &[u3
     let row = p.k + 1;
     let long = p.d + p.k;
     let mut sum: i64 = 0;
-    let mut i: usize = 0;
-    while i < p.t {
+    for i in 0..p.t {
         let part = correlation_at(multipliers, row * i, errors, long * i + j, row, half);
-        let more = plus(sum, part);
-        sum = more;
-        i += 1;
+        sum = plus(sum, part);
     }
     sum
 }

@@ -1,6 +1,5 @@
 -- Each turn writes the noise of the next place.
 -- Assumes nothing.
-use Prim.Native.Nat.{◌-◌}
 use lib.ListN.{length}
 use Rattle.maths.specs.Vector.{at}
 use Rattle.draws.proofs.Laws.{Turned}
@@ -9,6 +8,3 @@ use Rattle.sheet_noise.proofs.fill.Given as goal
 
 abbrev pub invariant-loop-j : goal.invariant-loop-j
 invariant-loop-j l = Turned (λ i. centred_noise l.p l.multipliers l.errors (at l.before i) i) 0 l.initial.noise l.j l.noise
-
-abbrev pub decreases-loop-j : goal.decreases-loop-j
-decreases-loop-j l = length l.initial.noise - l.j

@@ -6,21 +6,12 @@ use lib.ListN.{length-set}
 use Rattle.run_scheme.proofs.Noise.{sizes_stored}
 use Rattle.run_scheme.proofs.made.fill_noise.Goals as goal
 
-pub loop-j-smaller : goal.loop-j-smaller
-loop-j-smaller c = simp length-set (omega arith)
-
 pub loop-j-preserved : goal.loop-j-preserved
 loop-j-preserved c =
     let at = c.loop-j in (
-      sizes_stored at.noise at.j c.made_noise.result c.loop-j-test.true c.made_noise.ensures at.invariant.0,
+      sizes_stored at.noise at.j c.made_noise.result (omega arith) c.made_noise.ensures at.invariant.0,
       length-set at.noise at.j _ ∙ at.invariant.1,
     )
 
 pub loop-j-init : goal.loop-j-init
 loop-j-init c = (c.requires, refl)
-
-pub offset_bounds-noise-j : goal.offset_bounds-noise-j
-offset_bounds-noise-j c = omega arith
-
-pub overflow_add-j : goal.overflow_add-j
-overflow_add-j c = omega arith

@@ -1,7 +1,6 @@
 -- Each turn adds one product.
 -- Assumes nothing.
 use mathlib.Core.Path.{◌∙◌}
-use Prim.Native.Nat.{◌-◌}
 use native.Mathlib.Omega.{arith}
 use mir.Syntax.{w64}
 use mir.Val.{SFits}
@@ -16,8 +15,8 @@ loop-l-init c = summing_none _ _
 pub term-product-requires : goal.term-product-requires
 term-product-requires c = let pre = c.requires in (pre.6.each _, pre.7.each _, pre.5)
 
-pub plus-more-requires : goal.plus-more-requires
-plus-more-requires c =
+pub plus-sum-requires : goal.plus-sum-requires
+plus-sum-requires c =
     let pre = c.requires in
     let each =
     term_most c.args.half c.args.multipliers.now c.args.first c.args.errors.now c.args.place pre.5 pre.6
@@ -32,9 +31,9 @@ plus-more-requires c =
 pub loop-l-preserved : goal.loop-l-preserved
 loop-l-preserved c =
     let one : SFits w64 c.term-product.result = search rules in
-    let fits : SFits w64 c.plus-more.result = search rules in
-    summing_more _ _ c.plus-more.result c.term-product.result c.loop-l.invariant (omega arith) fits one
-    c.plus-more.ensures (c.term-product.ensures
+    let fits : SFits w64 c.plus-sum.result = search rules in
+    summing_more _ _ c.plus-sum.result c.term-product.result c.loop-l.invariant (omega arith) fits one
+    c.plus-sum.ensures (c.term-product.ensures
     ∙ term_is c.args.half c.args.multipliers.now c.args.first c.args.errors.now c.args.place
     c.loop-l.l)
 

@@ -1,7 +1,6 @@
 -- Each turn adds the part of one polynomial.
 -- Assumes nothing.
 use mathlib.Core.Path.{◌∙◌}
-use Prim.Native.Nat.{◌-◌}
 use native.Mathlib.Omega.{arith}
 use mir.Syntax.{w64}
 use mir.Val.{SFits}
@@ -52,8 +51,8 @@ correlation_at-part-requires c =
       by_half c.args.p pre.0 pre.1 c.args.multipliers.now c.args.errors.now pre.5 pre.6 _ pre.6,
     )
 
-pub plus-more-requires : goal.plus-more-requires
-plus-more-requires c =
+pub plus-sum-requires : goal.plus-sum-requires
+plus-sum-requires c =
     let pre = c.requires in
     let each = part_most c.args.p pre.0 pre.1 c.args.multipliers.now c.args.errors.now pre.5 pre.6 c.args.j in
     let fits : SFits w64 c.correlation_at-part.result = search rules in (
@@ -67,9 +66,9 @@ plus-more-requires c =
 pub loop-i-preserved : goal.loop-i-preserved
 loop-i-preserved c =
     let one : SFits w64 c.correlation_at-part.result = search rules in
-    let fits : SFits w64 c.plus-more.result = search rules in
-    summing_more _ _ c.plus-more.result c.correlation_at-part.result c.loop-i.invariant (omega arith) fits one
-    c.plus-more.ensures (c.correlation_at-part.ensures
+    let fits : SFits w64 c.plus-sum.result = search rules in
+    summing_more _ _ c.plus-sum.result c.correlation_at-part.result c.loop-i.invariant (omega arith) fits one
+    c.plus-sum.ensures (c.correlation_at-part.ensures
     ∙ part_is c.args.p _ c.args.multipliers.now c.args.errors.now c.args.j c.loop-i.i
     c.requires.2)
 
