@@ -11,7 +11,7 @@ use native.Mathlib.Omega.{arith}
 use borrow.Author.Tests.{lt-ltb, le-ltb, ltb-true, ltb-false}
 use lib.Dec.{ltb}
 use lib.ListN.{length, get_or, length-append}
-use Rattle.calls.specs.Outcome.{Outcome, accepted, refused}
+use Rattle.calls.specs.Outcome.{Outcome, accepted, refused, refuse}
 use Rattle.calls.specs.Checks.{all_of, further, passing, refuse_first, below}
 use Rattle.calls.proofs.Outcome.{refuse_accepted}
 
@@ -123,6 +123,11 @@ module _ {A : Type 0} (test : ℕ → A → Bool) where
     pub refuse_first_passes : (i : ℕ) → i ≡ passing test start xs → length xs ≤ i → refuse_first test start offset xs after ≡ after
     unfolding refuse_first
     refuse_first_passes i e h = rw (← e, le-ltb i (length xs) h)
+
+    -- the check of the first number that fails the test
+    pub refuse_first_at : (i : ℕ) → i ≡ passing test start xs → refuse (ltb i (length xs)) 3 (offset + i) after ≡ refuse_first test start offset xs after
+    unfolding refuse_first
+    refuse_first_at i e = rw (← e) refl
 
     -- an accepted call: all entries pass, and what comes after accepts
     pub refuse_first_accepted : refuse_first test start offset xs after ≡ accepted → (passing test start xs ≡ length xs) × (after ≡ accepted)

@@ -1,8 +1,8 @@
 // What the open calls of every layer share: the answer, the check of a slice of numbers, and the functions on a region of a lent slice.
 #![tactic(auto)]
 
-ghost use Rattle.std.specs.Prelude.{◌≡◌, ◌+◌, ◌≤◌, length, replicate};
-ghost use Rattle.calls.specs.Outcome.{number_of, place_of};
+ghost use Rattle.std.specs.Prelude.{◌≡◌, ◌+◌, ◌≤◌, ltb, length, replicate};
+ghost use Rattle.calls.specs.Outcome.{outcome, accepted, refuse, number_of, place_of};
 ghost use Rattle.calls.specs.Checks.{passing, below};
 ghost use Rattle.calls.specs.Region.{region, over};
 
@@ -83,6 +83,17 @@ pub fn first_at_least(xs: &[u32], limit: u32) -> usize
     xs.len()
 }
 
+// Refused at the first number out of range, `first` of `count`, its place counted from `offset`; none is where `first` is `count`.
+pub fn first_checked(first: usize, count: usize, offset: usize) -> Answer
+    requires { offset + count ≤ 65536 }
+    ensures { outcome result ≡ refuse (ltb first count) 3 (offset + first) accepted }
+{
+    if first < count {
+        return Err(Refusal::OutOfRange((offset + first) as u32));
+    }
+    Ok(())
+}
+
 // Sets the `n` numbers from `at` on to zero.
 pub fn clear_at(work: &mut [u32], at: usize, n: usize)
     requires { at + n ≤ length work.old }
@@ -99,11 +110,11 @@ pub fn clear(work: &mut [u32])
 }
 
 // Copies `src` into the places from `at` on.
-pub fn copy_in(work: &mut [u32], at: usize, src: &[u32])
-    requires { at + length src.now ≤ length work.old }
-    ensures { work.new ≡ over work.old at src.now }
+pub fn copy_in<T: Copy>(dst: &mut [T], at: usize, src: &[T])
+    requires { at + length src.now ≤ length dst.old }
+    ensures { dst.new ≡ over dst.old at src.now }
 {
-    work[at..at + src.len()].copy_from_slice(src);
+    dst[at..at + src.len()].copy_from_slice(src);
 }
 
 // Fills `dst` with the numbers from `at` on.
@@ -112,12 +123,4 @@ pub fn copy_out(dst: &mut [u32], work: &[u32], at: usize)
     ensures { dst.new ≡ region work.now at (length dst.old) }
 {
     dst.copy_from_slice(&work[at..at + dst.len()]);
-}
-
-// Copies bytes into the places from `at` on.
-pub fn copy_at(dst: &mut [u8], at: usize, src: &[u8])
-    requires { at + length src.now ≤ length dst.old }
-    ensures { dst.new ≡ over dst.old at src.now }
-{
-    dst[at..at + src.len()].copy_from_slice(src);
 }

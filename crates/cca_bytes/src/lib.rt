@@ -9,8 +9,8 @@ pub fn write_both(out: &mut [u8], first: &[u8], second: &[u8])
     requires { length out.old ≡ length first.now + length second.now }
     ensures { out.new ≡ first.now ++ second.now }
 {
-    calls::copy_at(out, 0, first);
-    calls::copy_at(out, first.len(), second);
+    calls::copy_in(out, 0, first);
+    calls::copy_in(out, first.len(), second);
 }
 
 // Whether two slices of one length hold the same bytes. Every byte is read, wherever they differ.

@@ -36,7 +36,7 @@ fn encapsulate_digest(
         &mut ciphertext[0..n],
         work,
     )?;
-    calls::copy_at(ciphertext, n, &digest[32..64]);
+    calls::copy_in(ciphertext, n, &digest[32..64]);
     Ok(())
 }
 

@@ -19,6 +19,6 @@ pub fn write_public_key(p: Parameters, seed: &[u8], work: &[u32], out: &mut [u8]
 {
     let start = crate::vectors::vectors_start(p);
     let end = crate::vectors::vectors_end(p);
-    calls::copy_at(out, 0, seed);
+    calls::copy_in(out, 0, seed);
     packing::pack_into(&work[start..end], p.width, &mut out[32..]);
 }

@@ -86,7 +86,7 @@ fn keygen_with_buffers(
     byte_source::source_bytes(p, seed, next, seedpk);
     store_key(p, seedsk, seedpk, work)?;
     bytes::write_public_key(p, seedpk, work, public_key);
-    calls::copy_at(secret_seed, 0, seedsk);
+    calls::copy_in(secret_seed, 0, seedsk);
     Ok(())
 }
 

@@ -3,18 +3,14 @@ ghost use Rattle.std.specs.Prelude.{◌≡◌, ◌++◌, ◌+◌, ◌≤◌, len
 ghost use Rattle.calls.specs.Outcome.{outcome, accepted};
 ghost use Rattle.calls.specs.Checks.{refuse_first, below};
 
-use calls::{Answer, Refusal};
+use calls::Answer;
 
 // Refused at the first number that is `limit` or more, its place counted from `offset`.
 pub fn one_checked(xs: &[u32], limit: u32, offset: usize) -> Answer
     requires { offset + length xs.now ≤ 65536 }
     ensures { outcome result ≡ refuse_first (below limit) 0 offset xs.now accepted }
 {
-    let i = calls::first_at_least(xs, limit);
-    if i < xs.len() {
-        return Err(Refusal::OutOfRange((offset + i) as u32));
-    }
-    Ok(())
+    calls::first_checked(calls::first_at_least(xs, limit), xs.len(), offset)
 }
 
 // Refused at the first number of `a`, then of `b`, that is `q` or more.

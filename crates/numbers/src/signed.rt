@@ -7,7 +7,7 @@ ghost use Rattle.numbers.specs.Scheme as scheme;
 ghost use Rattle.sets.specs.Derived.{multiplier_bound_of};
 ghost use Rattle.numbers.specs.Calls.{is_multiplier_of};
 
-use calls::{Answer, Refusal};
+use calls::Answer;
 use sets::Parameters;
 
 // Whether `z` has size at most `limit`.
@@ -62,11 +62,7 @@ pub fn multipliers_checked(p: Parameters, rs: &[i32], offset: usize) -> Answer
     requires { Rules p × (offset + length rs.now ≤ 65536) }
     ensures { outcome result ≡ refuse_first (is_multiplier_of p) 0 offset rs.now accepted }
 {
-    let i = first_non_multiplier(p, rs);
-    if i < rs.len() {
-        return Err(Refusal::OutOfRange((offset + i) as u32));
-    }
-    Ok(())
+    calls::first_checked(first_non_multiplier(p, rs), rs.len(), offset)
 }
 
 // Writes the residue of each number.

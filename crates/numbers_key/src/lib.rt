@@ -54,11 +54,7 @@ fn errors_checked(es: &[i32], eta: u32, offset: usize) -> Answer
     requires { (eta < 2 ^ 24) × (offset + length es.now ≤ 65536) }
     ensures { outcome result ≡ refuse_first (is_error eta) 0 offset es.now accepted }
 {
-    let i = first_error(es, eta);
-    if i < es.len() {
-        return Err(Refusal::OutOfRange((offset + i) as u32));
-    }
-    Ok(())
+    calls::first_checked(first_error(es, eta), es.len(), offset)
 }
 
 // Refused at the first number of `a`, then `s`, that is `q` or more, then at the first error of size above `eta`.

@@ -3,7 +3,7 @@ ghost use Rattle.std.specs.Prelude.{◌≡◌, ◌-◌, ◌<◌, length};
 ghost use Rattle.calls.specs.Region.{over};
 ghost use Rattle.sponge.specs.Sponge.{padding};
 
-use calls::copy_at;
+use calls::copy_in;
 
 // Pads a block from `at` on: the domain's suffix, zeros, and the final bit in the last byte.
 pub fn pad_at(block: &mut [u8], at: usize, suffix: u8)
@@ -11,10 +11,10 @@ pub fn pad_at(block: &mut [u8], at: usize, suffix: u8)
     ensures { block.new ≡ over block.old at (padding suffix (136 - at)) }
 {
     if at == 135 {
-        copy_at(block, at, &[suffix + 0x80]);
+        copy_in(block, at, &[suffix + 0x80]);
         return;
     }
-    copy_at(block, at, &[suffix]);
+    copy_in(block, at, &[suffix]);
     block[at + 1..135].fill(0);
-    copy_at(block, 135, &[0x80]);
+    copy_in(block, 135, &[0x80]);
 }

@@ -8,7 +8,7 @@ use crate::block::pad_at;
 use crate::lanes::mix;
 use crate::squeeze::squeeze;
 use crate::state::Sponge;
-use calls::copy_at;
+use calls::copy_in;
 
 impl Sponge {
     // A sponge that has taken nothing in.
@@ -39,7 +39,7 @@ impl Sponge {
     {
         let at = self.waiting;
         let end = at + piece.len();
-        copy_at(&mut self.block, at, piece);
+        copy_in(&mut self.block, at, piece);
         if end < 136 {
             self.waiting = end;
             return;

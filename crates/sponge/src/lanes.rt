@@ -4,7 +4,7 @@ ghost use Rattle.maths.specs.Vector.{at};
 ghost use Rattle.keccak.specs.Lane.{◌⊕◌, five};
 ghost use Rattle.sponge.specs.Sponge.{lane_of, mixed, lanes};
 
-use calls::copy_at;
+use calls::copy_in;
 
 // Lane i of a block, and 0 past the block's end.
 fn lane_of(block: &[u8], i: usize) -> u64
@@ -61,7 +61,7 @@ pub fn lane_block(a: [[u64; 5]; 5]) -> [u8; 136]
 {
     let mut block = [0u8; 136];
     for i in 0..17 {
-        copy_at(&mut block, 8 * i, &a[i / 5][i % 5].to_le_bytes());
+        copy_in(&mut block, 8 * i, &a[i / 5][i % 5].to_le_bytes());
     }
     block
 }

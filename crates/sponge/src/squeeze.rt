@@ -4,7 +4,7 @@ ghost use Rattle.keccak.specs.Keccak.{keccak_f};
 ghost use Rattle.sponge.specs.Sponge.{squeezed};
 
 use crate::lanes::lane_block;
-use calls::copy_at;
+use calls::copy_in;
 
 // Fills `out` from a state whose last permutation is still to be done.
 pub fn squeeze(state: [[u64; 5]; 5], out: &mut [u8])
@@ -17,6 +17,6 @@ pub fn squeeze(state: [[u64; 5]; 5], out: &mut [u8])
         let block = lane_block(a);
         let start = 136 * turn;
         let n = (out.len() - start).min(136);
-        copy_at(out, start, &block[0..n]);
+        copy_in(out, start, &block[0..n]);
     }
 }

@@ -5,4 +5,4 @@ use Rattle.calls.proofs.Region.{over_lent}
 use Rattle.calls.proofs.copy_in.Goals as goal
 
 pub returns : goal.returns
-returns c = rw c.copy_from_slice.ensures.after (over_lent c.args.work.now c.args.at c.args.src.now _ (omega arith))
+returns g c = rw c.copy_from_slice.ensures.after (over_lent c.args.dst.now c.args.at c.args.src.now _ (omega arith))

@@ -10,6 +10,6 @@ use Rattle.cca_bytes.proofs.write_both.Goals as goal
 
 pub returns : goal.returns
 returns c =
-    c.copy_at-2.ensures
-    ∙ ap (λ (ls : List ℕ). over ls (length c.args.first.now) c.args.second.now) c.copy_at.ensures
+    c.copy_in-2.ensures
+    ∙ ap (λ (ls : List ℕ). over ls (length c.args.first.now) c.args.second.now) c.copy_in.ensures
     ∙ both_over c.args.out.now c.args.first.now c.args.second.now (length c.args.first.now) refl c.requires

@@ -56,9 +56,9 @@ write_public_key-requires c =
       digit = stored_digits c.args.p pre.1 _ _ (c.in_ok-store_key.ensures.result refl);
     }
 
-pub copy_at-requires : goal.copy_at-requires
-copy_at-requires c =
-    omega (arith, secret_size (goal.at.copy_at-requires c).After-source_bytes-next, c.requires.4)
+pub copy_in-requires : goal.copy_in-requires
+copy_in-requires c =
+    omega (arith, secret_size (goal.at.copy_in-requires c).After-source_bytes-next, c.requires.4)
 
 pub returns-in_err-store_key : goal.returns-in_err-store_key
 returns-in_err-store_key c =
@@ -78,7 +78,7 @@ returns c =
           ∙ key_made p seed _ _ (first_is (goal.at.returns c).After-source_bytes) (second_is (goal.at.returns c).After-source_bytes) _
           (c.in_ok-store_key.ensures.result refl)
           ∙ sym (leaves_accepted _ _ decided);
-      secret = c.copy_at.ensures
+      secret = c.copy_in.ensures
           ∙ over_whole _ _ (secret_size (goal.at.returns c).After-source_bytes-next ∙ sym c.requires.4)
           ∙ first_is (goal.at.returns c).After-source_bytes
           ∙ sym (leaves_accepted _ _ decided);

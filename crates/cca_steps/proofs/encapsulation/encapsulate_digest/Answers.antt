@@ -35,5 +35,5 @@ returns c =
     let old = args.ciphertext.now in
     let size : length old ≡ length old - 32 + 32 = omega (arith, c.requires.6) in
     let whole = ciphertext_made args.p args.public.now args.message.now args.digest.now old _ _ (length old - 32) decided
-    c.requires.5 c.requires.4 size (front_size (goal.at.returns c).After-encrypt) c.in_ok-encrypt.ensures.sealed c.copy_at.ensures in
+    c.requires.5 c.requires.4 size (front_size (goal.at.returns c).After-encrypt) c.in_ok-encrypt.ensures.sealed c.copy_in.ensures in
     record { answer = sym decided; given = whole }

@@ -25,8 +25,8 @@ vectors_part c =
     region_part c.args.work.now from.result count c.vectors_end-end.result (omega (arith, c.vectors_end-end.ensures, from.ensures))
     ∙ ap (λ (at : ℕ). region c.args.work.now at count) from.ensures
 
-pub copy_at-requires : goal.copy_at-requires
-copy_at-requires c =
+pub copy_in-requires : goal.copy_in-requires
+copy_in-requires c =
     omega (arith, c.requires.byte_rules.2, c.requires.byte_rules.4, seed_room c.args.p)
 
 pub offset_bounds-work-start : goal.offset_bounds-work-start
@@ -41,11 +41,11 @@ slice_bounds-pack_into-end c =
 
 pub slice_bounds-pack_into-count-2 : goal.slice_bounds-pack_into-count-2
 slice_bounds-pack_into-count-2 c =
-    omega (arith, c.copy_at.auto.dst, c.requires.byte_rules.4, seed_room c.args.p)
+    omega (arith, c.copy_in.auto.dst, c.requires.byte_rules.4, seed_room c.args.p)
 
 pub slice_bounds-pack_into-start-2 : goal.slice_bounds-pack_into-start-2
 slice_bounds-pack_into-start-2 c =
-    omega (arith, c.copy_at.auto.dst, c.requires.byte_rules.4, seed_room c.args.p)
+    omega (arith, c.copy_in.auto.dst, c.requires.byte_rules.4, seed_room c.args.p)
 
 pub pack_into-requires : goal.pack_into-requires
 pack_into-requires c =
@@ -61,7 +61,7 @@ unfolding public_key_bytes_of
 returns c =
     let p = c.args.p in
     let pre = c.requires.byte_rules in
-    let copied = c.copy_at in
+    let copied = c.copy_in in
     let packed = c.pack_into in
     let bytes = packed_bytes_of (p.d1 * p.t) p.width in
     let room : length copied.new.dst ≡ 32 + bytes = copied.auto.dst ∙ pre.4 in

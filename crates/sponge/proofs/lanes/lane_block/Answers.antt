@@ -10,7 +10,7 @@ loop-i-init c = laid_none _ _ refl
 
 pub loop-i-preserved : goal.loop-i-preserved
 loop-i-preserved c =
-    rw c.copy_at.ensures
+    rw c.copy_in.ensures
     (laid_more _ c.loop-i.invariant c.loop-i-test.true (c.to_le_bytes.ensures ∙ eight_bytes _))
 
 pub returns : goal.returns

@@ -21,7 +21,7 @@ loop-turn-preserved c =
     let more : 136 * now.turn < size = omega arith in
     let before : min (136 * now.turn) size ≡ 136 * now.turn = omega arith in
     let after : min (136 * (now.turn + 1)) size ≡ 136 * now.turn + c.min-n.result = omega arith in
-    rw (after, c.copy_at.ensures, sub-zero)
+    rw (after, c.copy_in.ensures, sub-zero)
     (squeezing_more (rw before at now.invariant) _ _ _ more c.permute-next.ensures c.lane_block-block.ensures c.min-n.ensures)
 
 pub returns : goal.returns
