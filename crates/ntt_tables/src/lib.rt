@@ -68,8 +68,16 @@ pub fn fill_tables(tables: &mut [u32], rows: usize, q: u32)
     let k = montgomery::negated_inverse(q);
     let by = montgomery::scaled_scale(q);
     let size = rows * 256;
-    fill_powers(tables, size, 256, |i| rows * (i / 16 * (i % 16)), by, q, k);
-    fill_powers(tables, size + 256, 8, |i| 16 * rows * i, by, q, k);
+    fill_powers(
+        tables,
+        size,
+        256,
+        move |i| rows * (i / 16 * (i % 16)),
+        by,
+        q,
+        k,
+    );
+    fill_powers(tables, size + 256, 8, move |i| 16 * rows * i, by, q, k);
     fill_powers(tables, size + 264, rows, |i| 256 * i, by, q, k);
     twist_rows(tables, rows);
 }

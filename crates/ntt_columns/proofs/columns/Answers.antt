@@ -2,15 +2,11 @@
 -- Assumes nothing.
 use mathlib.Core.Path.{refl}
 use Rattle.ntt_columns.proofs.Loading.{zeros_at}
-use Rattle.ntt_columns.proofs.Blocks.{columns_none, block_ready, columns_more, columns_all}
+use Rattle.ntt_columns.proofs.Blocks.{columns_none, columns_more, columns_all}
 use Rattle.ntt_columns.proofs.columns.Goals as goal
 
 pub loop-b-init : goal.loop-b-init
 loop-b-init c = (columns_none c.requires, record { size = refl; zeros = λ i h. zeros_at 1024 i })
-
-pub column_block-requires : goal.column_block-requires
-column_block-requires c =
-    (block_ready c.requires c.loop-b.invariant.0 c.loop-b-test.true, c.loop-b.invariant.1)
 
 pub loop-b-preserved : goal.loop-b-preserved
 loop-b-preserved c =

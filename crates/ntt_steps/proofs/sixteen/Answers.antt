@@ -1,12 +1,8 @@
 -- `ntt_steps::sixteen` meets its contract: the two halves one after the other.
 -- Assumes nothing.
 use native.Mathlib.Omega.{arith}
-use Rattle.ntt_steps.proofs.Halves.{narrow_ready, wide_ready, halves}
+use Rattle.ntt_steps.proofs.Halves.{wide_ready, halves}
 use Rattle.ntt_steps.proofs.sixteen.Goals as goal
-
-pub narrow-requires : goal.narrow-requires
-narrow-requires c =
-    narrow_ready c.requires (omega arith)
 
 pub wide-requires : goal.wide-requires
 wide-requires c =

@@ -4,20 +4,9 @@ use Prim.Native.Nat.{◌+◌, ◌*◌, ◌≤◌}
 use lib.ListN.{length}
 use native.Mathlib.Nat.{zero-add}
 use native.Mathlib.Omega.{arith}
-use Rattle.ntt_steps.proofs.FourWritten.{four_none, four_more}
-use Rattle.ntt_steps.proofs.Halves.{quarters_all, places_ready}
+use Rattle.ntt_steps.proofs.FourWritten.{four_more}
+use Rattle.ntt_steps.proofs.Halves.{quarters_all}
 use Rattle.ntt_steps.proofs.wide.Goals as goal
-
-pub loop-i-init : goal.loop-i-init
-loop-i-init c = four_none _ _ _ _
-
-pub plain_butterfly-z-requires : goal.plain_butterfly-z-requires
-plain_butterfly-z-requires c =
-    let ready = c.requires in
-    (places_ready ready c.loop-i.i c.loop-i-test.true, ready.roots_below.each _ (omega arith))
-
-pub write_apart-requires : goal.write_apart-requires
-write_apart-requires c = omega (arith, c.requires.to_size, c.loop-i.invariant.kept)
 
 pub loop-i-preserved : goal.loop-i-preserved
 loop-i-preserved c =
