@@ -8,7 +8,7 @@ ghost use Rattle.aes_tables.specs.State.{add_words};
 ghost use Rattle.aes_tables.specs.Words.{byte_of, word, columns, schedule, SubstitutionTable, RoundTable};
 
 use aes_tables::tables::{round_entry, substituted};
-use aes_tables::word::{rotate_one, rotate_three, rotate_two};
+use aes_tables::word::rotate;
 
 // A column of a round: row i is taken from the i-th of four columns, substituted and mixed, and the word k of the round key is added.
 fn round_column(table: &[u32], a: u32, b: u32, c: u32, d: u32, k: u32) -> u32
@@ -16,9 +16,9 @@ fn round_column(table: &[u32], a: u32, b: u32, c: u32, d: u32, k: u32) -> u32
     ensures { word result ≡ add_words (mix_column (sbox (byte_of 0 a)) (sbox (byte_of 1 b)) (sbox (byte_of 2 c)) (sbox (byte_of 3 d))) (word k) }
 {
     let first = round_entry(table, a % 256);
-    let second = rotate_one(round_entry(table, b / 256 % 256));
-    let third = rotate_two(round_entry(table, c / 256 / 256 % 256));
-    let fourth = rotate_three(round_entry(table, d / 256 / 256 / 256 % 256));
+    let second = rotate(round_entry(table, b / 256 % 256), 1);
+    let third = rotate(round_entry(table, c / 256 / 256 % 256), 2);
+    let fourth = rotate(round_entry(table, d / 256 / 256 / 256 % 256), 3);
     first ^ second ^ third ^ fourth ^ k
 }
 

@@ -4,7 +4,7 @@ ghost use Rattle.aes.specs.Key.{sub_word_of, rcon, temp, next_word_of, key_expan
 ghost use Rattle.aes_tables.specs.Words.{word, schedule, SubstitutionTable};
 
 use aes_tables::tables::substituted;
-use aes_tables::word::{rotate_three, word_at};
+use aes_tables::word::{rotate, word_at};
 
 // SubWord.
 fn sub_word(sub: &[u8], w: u32) -> u32
@@ -29,7 +29,7 @@ fn temp(sub: &[u8], previous: u32, i: usize) -> u32
     ensures { word result ≡ temp (word previous) i }
 {
     if i % 8 == 0 {
-        return sub_word(sub, rotate_three(previous)) ^ round_constant(i / 8);
+        return sub_word(sub, rotate(previous, 3)) ^ round_constant(i / 8);
     }
     if i % 8 == 4 {
         return sub_word(sub, previous);

@@ -1,10 +1,11 @@
 -- The bytes of words: of a sum, of four bytes in one, and of a word that is turned.
 -- Assumes nothing.
-use mathlib.Core.Path.{◌≡◌, ap, ◌∙◌}
+use mathlib.Core.Path.{◌≡◌, refl, ap, ◌∙◌}
 use mathlib.Core.List.{[], ◌∷◌}
-use Prim.Native.Nat.{ℕ, zero, suc, ◌+◌, ◌*◌, ◌/◌, ◌%◌, ◌^◌, ◌<◌}
+use Prim.Native.Nat.{ℕ, zero, suc, ◌+◌, ◌-◌, ◌*◌, ◌/◌, ◌%◌, ◌^◌, ◌<◌}
 use native.Mathlib.Omega.{arith}
-use lib.Bits.{xor_shr, xor_mod}
+use lib.Bits.{bit_or, or_shifted, xor_shr, xor_mod}
+use Rattle.std.specs.Int.{w32, rotate_left}
 use Rattle.aes_tables.specs.Field.{◌⊕◌}
 use Rattle.aes_tables.specs.State.{four, add_words}
 use Rattle.aes_tables.specs.Words.{byte_of, word}
@@ -46,22 +47,34 @@ module _ (w : ℕ) (small : w < 2 ^ 32) where
   bytes_of_word = omega arith
 
   -- a word whose bytes move up by one place
-  pub rotated_one : word (w % 16777216 * 256 + w / 16777216) ≡ four (λ i. byte_of ((i + 3) % 4) w)
+  rotated_one : word (w % 16777216 * 256 + w / 16777216) ≡ four (λ i. byte_of ((i + 3) % 4) w)
   rotated_one = rw moved (word_of_bytes _ _ _ _ (byte_small w 3) (byte_small w 0) (byte_small w 1) (byte_small w 2))
     where
       moved : w % 16777216 * 256 + w / 16777216 ≡ byte_of 3 w + byte_of 0 w * 256 + byte_of 1 w * 65536 + byte_of 2 w * 16777216
       moved = omega (arith, bytes_of_word, byte_small w 0, byte_small w 1, byte_small w 2, byte_small w 3)
 
   -- by two places
-  pub rotated_two : word (w % 65536 * 65536 + w / 65536) ≡ four (λ i. byte_of ((i + 2) % 4) w)
+  rotated_two : word (w % 65536 * 65536 + w / 65536) ≡ four (λ i. byte_of ((i + 2) % 4) w)
   rotated_two = rw moved (word_of_bytes _ _ _ _ (byte_small w 2) (byte_small w 3) (byte_small w 0) (byte_small w 1))
     where
       moved : w % 65536 * 65536 + w / 65536 ≡ byte_of 2 w + byte_of 3 w * 256 + byte_of 0 w * 65536 + byte_of 1 w * 16777216
       moved = omega (arith, bytes_of_word, byte_small w 0, byte_small w 1, byte_small w 2, byte_small w 3)
 
   -- by three places
-  pub rotated_three : word (w % 256 * 16777216 + w / 256) ≡ four (λ i. byte_of ((i + 1) % 4) w)
+  rotated_three : word (w % 256 * 16777216 + w / 256) ≡ four (λ i. byte_of ((i + 1) % 4) w)
   rotated_three = rw moved (word_of_bytes _ _ _ _ (byte_small w 1) (byte_small w 2) (byte_small w 3) (byte_small w 0))
     where
       moved : w % 256 * 16777216 + w / 256 ≡ byte_of 1 w + byte_of 2 w * 256 + byte_of 3 w * 65536 + byte_of 0 w * 16777216
       moved = omega (arith, bytes_of_word, byte_small w 0, byte_small w 1, byte_small w 2, byte_small w 3)
+
+  -- the two parts of a word that the library turns do not meet
+  parts : (high low k : ℕ) {moved front : ℕ} → moved ≡ high * 2 ^ k → front ≡ low → low < 2 ^ k → bit_or moved front ≡ high * 2 ^ k + low
+  parts high low k e f h = rw (e, f) (or_shifted high k low h)
+
+  -- by any number of places, as the library turns a word
+  pub rotated : (places : ℕ) → 0 < places → places < 4 → word (rotate_left w32 w (8 * places)) ≡ four (λ i. byte_of ((i + (4 - places)) % 4) w)
+  rotated zero h k = absurd (omega arith)
+  rotated (suc zero) h k = ap (λ (v : ℕ). word v) (parts (w % 16777216) (w / 16777216) 8 (omega arith) refl (omega arith)) ∙ rotated_one
+  rotated (suc (suc zero)) h k = ap (λ (v : ℕ). word v) (parts (w % 65536) (w / 65536) 16 (omega arith) refl (omega arith)) ∙ rotated_two
+  rotated (suc (suc (suc zero))) h k = ap (λ (v : ℕ). word v) (parts (w % 256) (w / 256) 24 (omega arith) refl (omega arith)) ∙ rotated_three
+  rotated (suc (suc (suc (suc n)))) h k = absurd (omega arith)

@@ -1,5 +1,5 @@
 // Words as numbers of 32 bits (specs/Words.antt).
-ghost use Rattle.std.specs.Prelude.{◌≡◌, [], ◌∷◌, ◌+◌, ◌%◌, ◌≤◌, length};
+ghost use Rattle.std.specs.Prelude.{◌≡◌, [], ◌∷◌, ◌+◌, ◌-◌, ◌%◌, ◌<◌, ◌≤◌, length};
 ghost use Rattle.maths.specs.Vector.{at};
 ghost use Rattle.aes_tables.specs.State.{four, state_of, block_of};
 ghost use Rattle.aes_tables.specs.Words.{byte_of, word, columns};
@@ -37,25 +37,12 @@ pub fn columns_of(block: &[u8]) -> [u32; 4]
     ]
 }
 
-// A word whose bytes move up by one place, the last one to the front.
-pub fn rotate_one(w: u32) -> u32
-    ensures { word result ≡ four (λ i. byte_of ((i + 3) % 4) w) }
+// A word whose bytes move up by some places, the last ones to the front.
+pub fn rotate(w: u32, places: u32) -> u32
+    requires { (0 < places) × (places < 4) }
+    ensures { word result ≡ four (λ i. byte_of ((i + (4 - places)) % 4) w) }
 {
-    w % 16777216 * 256 + w / 16777216
-}
-
-// The same by two places.
-pub fn rotate_two(w: u32) -> u32
-    ensures { word result ≡ four (λ i. byte_of ((i + 2) % 4) w) }
-{
-    w % 65536 * 65536 + w / 65536
-}
-
-// The same by three places, which is one place down.
-pub fn rotate_three(w: u32) -> u32
-    ensures { word result ≡ four (λ i. byte_of ((i + 1) % 4) w) }
-{
-    w % 256 * 16777216 + w / 256
+    w.rotate_left(8 * places)
 }
 
 // The block of a state.

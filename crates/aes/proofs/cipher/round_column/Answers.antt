@@ -8,6 +8,6 @@ pub returns : goal.returns
 unfolding byte_of
 returns c =
     column_mixed _ _ _ _ _ _ _ _ _ c.round_entry-first.ensures
-    (entry_one _ _ _ c.round_entry.ensures c.rotate_one-second.ensures)
-    (entry_two _ _ _ c.round_entry-2.ensures c.rotate_two-third.ensures)
-    (entry_three _ _ _ c.round_entry-3.ensures c.rotate_three-fourth.ensures)
+    (entry_one _ _ _ c.round_entry.ensures c.rotate-second.ensures)
+    (entry_two _ _ _ c.round_entry-2.ensures c.rotate-third.ensures)
+    (entry_three _ _ _ c.round_entry-3.ensures c.rotate-fourth.ensures)

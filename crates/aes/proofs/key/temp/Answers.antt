@@ -11,7 +11,7 @@ unfolding temp rot_word
 returns-then-i-eq0 c =
     rw (eq-eqb _ _ c.if-i-eq0.true)
     (word_sum c.sub_word.result c.round_constant.result
-    ∙ rw (c.sub_word.ensures, c.rotate_three.ensures, c.round_constant.ensures))
+    ∙ rw (c.sub_word.ensures, c.rotate.ensures, c.round_constant.ensures))
 
 pub returns-then-i-eq4 : goal.returns-then-i-eq4
 unfolding temp
