@@ -1,15 +1,11 @@
--- What a function that writes a text into a lent slice leaves there, and what a sheet's slices must be.
+-- What a function that appends to a text leaves there, and what a sheet's slices must be.
 -- Assumes nothing.
-use Rattle.std.specs.Prelude.{◌≡◌, List, ℕ, ◌+◌, ◌≤◌, ℤ, length}
-use Rattle.calls.specs.Region.{over}
+use Rattle.std.specs.Prelude.{◌≡◌, ◌++◌, List, ℕ, ℤ, length}
 use Rattle.sheet_order.specs.Order.{Sizes}
 
--- new is old with the text in place from at on, and next is the place after it
-pub record Written (old : List ℕ) (at : ℕ) (text new : List ℕ) (next : ℕ) : Type 0 where
-  pub room : at + length text ≤ length old
-  pub after : next ≡ at + length text
-  pub kept_length : length new ≡ length old
-  pub written : new ≡ over old at text
+-- new is the text old with another one behind it
+pub record Appended (old text new : List ℕ) : Type 0 where
+  pub is : new ≡ old ++ text
 
 -- noise, bits sent and bits read of one sealing
 pub record Sealing (noise : List ℤ) (sent read : List ℕ) : Type 0 where

@@ -9,7 +9,7 @@ ghost use Rattle.calls.specs.Region.{over};
 ghost use Rattle.sheet_text.specs.Text.{sheet_text, refused_text};
 ghost use Rattle.sheet_text.specs.Written.{Sealing};
 
-use append::{put_bytes, put_number};
+use append::Text;
 use rows::put_sheet;
 
 // Writes the sheet at the front of `out`, and answers its length.
@@ -27,7 +27,17 @@ pub fn write_sheet(
     ensures upper_bound { result ≤ 1024 }
 {
     let mut order: [usize; 256] = [0; 256];
-    put_sheet(noise, sent, read, ceiling, half, &mut order[0..256], out)
+    let mut text = Text::new();
+    put_sheet(
+        noise,
+        sent,
+        read,
+        ceiling,
+        half,
+        &mut order[0..256],
+        &mut text,
+    );
+    text.write(out)
 }
 
 // Writes the refusal with this number and place at the front of `out`, and answers its length.
@@ -37,7 +47,9 @@ pub fn write_refused(number: u8, place: u32, out: &mut [u8]) -> usize
     ensures out_after { out.new ≡ over out.old 0 (refused_text number place) }
     ensures upper_bound { result ≤ 1024 }
 {
-    let word = put_bytes(b"refused ", 0, out);
-    let first = put_number(number as u64, b' ', word, out);
-    put_number(place as u64, b'\n', first, out)
+    let mut text = Text::new();
+    text.push_bytes(b"refused ");
+    text.push_number(number as u64, b' ');
+    text.push_number(place as u64, b'\n');
+    text.write(out)
 }

@@ -8,13 +8,13 @@ use lib.ListN.{get_or}
 use lib.Seq.{take_all}
 use Rattle.sheet_order.specs.Order as order
 use Rattle.maths.proofs.SignedWord.{entry_kept}
-use Rattle.sheet_text.proofs.WrittenLaws.{written_none, written_append, written_as, room_next}
+use Rattle.sheet_text.proofs.WrittenLaws.{appended_none, appended, appended_as, room_next}
 use Rattle.sheet_text.proofs.TextLaws.{row_of, rows_none, rows_more, rows_front}
 use Rattle.sheet_text.proofs.rows.put_rows.Goals as goal
 
 pub loop-place-init : goal.loop-place-init
 loop-place-init c =
-    written_as (sym (rows_none c.args.noise.now c.args.sent.now c.args.read.now c.args.places.now)) (written_none (omega (arith, c.requires.2)))
+    appended_as (sym (rows_none c.args.noise.now c.args.sent.now c.args.read.now c.args.places.now)) (appended_none c.args.text.now)
 
 pub offset_bounds-noise-place : goal.offset_bounds-noise-place
 offset_bounds-noise-place c =
@@ -44,9 +44,9 @@ bounds-read-place c =
       c.requires.0.read_length,
     )
 
-pub put_row-end-requires : goal.put_row-end-requires
+pub put_row-requires : goal.put_row-requires
 unfolding order.size_at
-put_row-end-requires c =
+put_row-requires c =
     let noise = c.args.noise.now in
     let sent = c.args.sent.now in
     let read = c.args.read.now in
@@ -68,10 +68,10 @@ loop-place-preserved c =
     let places = c.args.places.now in
     let i = c.loop-place.place-index in
     let more = rows_more noise sent read places i (omega arith) in
-    written_as (sym more)
-    (written_append c.loop-place.invariant
+    appended_as (sym more)
+    (appended c.loop-place.invariant
     (rw (entry_kept (get_or noise (get_or places i 0) (pos 0)) c.put_row-arg-1.given) at
-    c.put_row-end.ensures))
+    c.put_row.ensures))
 
 pub returns : goal.returns
 returns c =

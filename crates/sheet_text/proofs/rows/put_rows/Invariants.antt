@@ -2,8 +2,8 @@
 -- Assumes nothing.
 use lib.ListN.{take}
 use Rattle.sheet_text.specs.Text.{rows}
-use Rattle.sheet_text.specs.Written.{Written}
+use Rattle.sheet_text.specs.Written.{Appended}
 use Rattle.sheet_text.proofs.rows.put_rows.Given as goal
 
 abbrev pub invariant-loop-place : goal.invariant-loop-place
-invariant-loop-place l = Written l.initial.out l.at (rows l.noise l.sent l.read (take l.place-index l.places)) l.out l.end
+invariant-loop-place l = Appended l.initial.text (rows l.noise l.sent l.read (take l.place-index l.places)) l.text

@@ -5,25 +5,25 @@ use mathlib.Core.List.{◌++◌}
 use Prim.Native.Nat.{◌-◌}
 use native.Mathlib.Nat.{sub-zero}
 use native.Mathlib.Omega.{arith}
-use lib.ListN.{take}
+use lib.ListN.{length, take}
 use Rattle.sheet_order.specs.Order.{shown}
 use Rattle.sheet_text.specs.Text as text
 use Rattle.sheet_text.specs.Text.{header, rows, last_line}
 use Rattle.sheet_order.proofs.Laws.{shown_below, shown_front}
-use Rattle.sheet_text.proofs.WrittenLaws.{written_append, room_front, room_next}
+use Rattle.sheet_text.proofs.WrittenLaws.{appended, room_front, room_next}
 use Rattle.sheet_text.proofs.rows.put_sheet.Goals as goal
 
-pub put_bytes-first-requires : goal.put_bytes-first-requires
+pub push_bytes-requires : goal.push_bytes-requires
 unfolding text.sheet_text text.header
-put_bytes-first-requires c =
+push_bytes-requires c =
     let noise = c.args.noise.now in
     let body = rows noise c.args.sent.now c.args.read.now (shown noise) in
     let end = last_line c.args.ceiling c.args.half in
-    room_front 0 header body (room_front 0 (header ++ body) end (omega (arith, c.requires.2)))
+    room_front (length c.args.text.now) header body (room_front (length c.args.text.now) (header ++ body) end c.requires.2)
 
-pub put_rows-last-requires : goal.put_rows-last-requires
+pub put_rows-requires : goal.put_rows-requires
 unfolding text.sheet_text text.header
-put_rows-last-requires c =
+put_rows-requires c =
     let noise = c.args.noise.now in
     let body = rows noise c.args.sent.now c.args.read.now (shown noise) in
     let end = last_line c.args.ceiling c.args.half in
@@ -34,8 +34,8 @@ put_rows-last-requires c =
     rw front (
       c.requires.0,
       shown_below noise,
-      room_next c.put_bytes-first.ensures body
-          (room_front 0 (header ++ body) end (omega (arith, c.requires.2))),
+      room_next c.push_bytes.ensures body
+          (room_front (length c.args.text.now) (header ++ body) end c.requires.2),
     )
 
 pub put_last_line-requires : goal.put_last_line-requires
@@ -48,8 +48,8 @@ put_last_line-requires c =
     let placed = c.order_places in
     let front : take (ten.result - 0) placed.new.order ≡ shown noise = rw sub-zero
     (shown_front noise placed.new.order ten.result placed.ensures ten.ensures) in
-    room_next (written_append {two = body} c.put_bytes-first.ensures (rw front at c.put_rows-last.ensures)) end
-    (omega (arith, c.requires.2))
+    room_next (appended {two = body} c.push_bytes.ensures (rw front at c.put_rows.ensures)) end
+    c.requires.2
 
 pub returns : goal.returns
 unfolding text.sheet_text text.header
@@ -60,5 +60,5 @@ returns c =
     let placed = c.order_places in
     let front : take (ten.result - 0) placed.new.order ≡ shown noise = rw sub-zero
     (shown_front noise placed.new.order ten.result placed.ensures ten.ensures) in
-    written_append (written_append {two = body} c.put_bytes-first.ensures
-    (rw front at c.put_rows-last.ensures)) c.put_last_line.ensures
+    appended (appended {two = body} c.push_bytes.ensures
+    (rw front at c.put_rows.ensures)) c.put_last_line.ensures
