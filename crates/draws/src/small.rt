@@ -7,7 +7,6 @@ ghost use Rattle.maths.specs.Bytes.{little_endian};
 ghost use Rattle.draws.specs.Small.{error_of_value, error_at, multiplier_of_value, signs_at_of, sign_bit, multiplier_at_of};
 ghost use Rattle.draws.specs.Calls.{in_turn, lent, lent_results_of};
 
-use crate::uniform::wide;
 use sets::Parameters;
 
 // The error that a byte gives.
@@ -42,9 +41,9 @@ fn number_at(bytes: &[u8], at: usize, width: usize) -> u32
     ensures { result ≡ little_endian (region bytes.now at width) }
 {
     if width == 1 {
-        wide(bytes[at])
+        u32::from(bytes[at])
     } else {
-        wide(bytes[at]) + (wide(bytes[at + 1]) << 8)
+        u32::from_le_bytes([bytes[at], bytes[at + 1], 0, 0])
     }
 }
 
@@ -53,7 +52,7 @@ fn sign_at(bytes: &[u8], signs: usize, position: usize) -> u32
     requires { signs + position / 8 < length bytes.now }
     ensures { result ≡ sign_bit bytes.now signs position }
 {
-    let byte = wide(bytes[signs + (position >> 3)]);
+    let byte = u32::from(bytes[signs + (position >> 3)]);
     (byte >> (position & 7)) & 1
 }
 

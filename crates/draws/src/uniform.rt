@@ -9,19 +9,12 @@ ghost use Rattle.draws.specs.Calls.{drawn_answer};
 use crate::{Draw, DrawRefusal};
 use calls::Answer;
 
-// A byte as a larger number.
-pub fn wide(x: u8) -> u32
-    ensures { (result ≡ x) × (result < 256) }
-{
-    x as u32
-}
-
 // The number of the three bytes from a position on.
 pub fn candidate_at(bytes: &[u8], position: usize) -> u32
     requires { position + 3 ≤ length bytes.now }
     ensures { result ≡ little_endian (region bytes.now position 3) }
 {
-    wide(bytes[position]) + (wide(bytes[position + 1]) << 8) + (wide(bytes[position + 2]) << 16)
+    u32::from_le_bytes([bytes[position], bytes[position + 1], bytes[position + 2], 0])
 }
 
 // One residue modulo q from the bytes from a position on, with `before` candidates set aside in a row for it so far: the one loop over candidates,
@@ -31,17 +24,11 @@ pub fn draw_one(bytes: &[u8], at: usize, q: u32, threshold: u32, before: u32) ->
     ensures { sample result ≡ sample_at q threshold before bytes.now at }
 {
     let scale = residues::scale(q);
-    if bytes.len() < 3 {
-        return Err(DrawRefusal::BytesEnded);
-    }
-    let last = bytes.len() - 3;
-    let mut position = at;
     let mut run = before;
-    while position <= last {
+    for position in (at..bytes.len().saturating_sub(2)).step_by(3) {
         let candidate = candidate_at(bytes, position);
-        position += 3;
         if candidate < threshold {
-            return Ok((residues::reduce_scaled(candidate, q, scale), position));
+            return Ok((residues::reduce_scaled(candidate, q, scale), position + 3));
         }
         run += 1;
         if run == 128 {

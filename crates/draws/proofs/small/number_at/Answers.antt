@@ -15,4 +15,4 @@ pub returns-else-width-eq1 : goal.returns-else-width-eq1
 returns-else-width-eq1 c =
     let args = c.args in
     let two : args.width ≡ 2 = omega arith in
-    rw two (omega (arith, little_two args.bytes.now args.at (omega arith)))
+    rw two (omega (arith, c.from_le_bytes.ensures, little_two args.bytes.now args.at (omega arith)))

@@ -16,4 +16,4 @@ pub returns : goal.returns
 unfolding sign_bit
 returns c =
     let args = c.args in
-    rw (and_mask args.position 3, and_mask (c.wide-byte.result / 2 ^ (args.position % 8)) 1, c.wide-byte.ensures.0)
+    rw (and_mask args.position 3, and_mask (c.from-byte.result / 2 ^ (args.position % 8)) 1, c.from-byte.ensures)

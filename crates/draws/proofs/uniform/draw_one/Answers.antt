@@ -6,11 +6,6 @@ use Rattle.draws.proofs.Candidates.{little_three_below}
 use Rattle.draws.proofs.Sampling.{sampling_none, sampling_end, sampling_take, sampling_aside, sampling_last}
 use Rattle.draws.proofs.uniform.draw_one.Goals as goal
 
-pub returns-then-bytes-lt3 : goal.returns-then-bytes-lt3
-returns-then-bytes-lt3 c =
-    let args = c.args in
-    sampling_end (sampling_none args.bytes.now args.at args.q args.threshold args.before c.requires.1) (omega arith)
-
 pub loop-position-init : goal.loop-position-init
 loop-position-init c = sampling_none _ _ _ _ _ (omega arith)
 
@@ -42,3 +37,8 @@ returns c = sampling_end c.loop-position.invariant (omega arith)
 
 pub loop-position-smaller : goal.loop-position-smaller
 loop-position-smaller c = omega arith
+
+pub returns-else-run-eq128 : goal.returns-else-run-eq128
+returns-else-run-eq128 c =
+    sampling_end
+    (sampling_aside c.loop-position.invariant (omega arith) c.candidate_at-candidate.ensures c.if-candidate-threshold.false c.if-run-eq128.false) (omega arith)
