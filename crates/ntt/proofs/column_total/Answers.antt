@@ -1,7 +1,6 @@
 -- `ntt::column_total` meets its contract: after n turns the numbers of the first n rows are added up.
 -- Assumes nothing.
-use native.Mathlib.Omega.{arith}
-use Rattle.ntt.proofs.Totals.{totalled_none, next_below, totalled_more, totalled_all}
+use Rattle.ntt.proofs.Totals.{totalled_none, totalled_more}
 use Rattle.ntt.proofs.column_total.Goals as goal
 
 pub loop-n-init : goal.loop-n-init

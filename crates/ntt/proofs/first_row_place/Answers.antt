@@ -2,7 +2,6 @@
 -- Assumes nothing.
 use mathlib.Core.Path.{ap, ◌∙◌}
 use Prim.Native.Nat.{ℕ, ◌*◌, ◌%◌}
-use native.Mathlib.Omega.{arith}
 use Rattle.montgomery.specs.Scaled.{unscale}
 use Rattle.ntt.specs.Rows.{first_row_at}
 use Rattle.ntt.proofs.first_row_place.Goals as goal

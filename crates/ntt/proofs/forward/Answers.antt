@@ -2,9 +2,7 @@
 -- Assumes nothing.
 use mathlib.Core.Path.{◌∙◌}
 use Prim.Native.Nat.{◌+◌, ◌*◌}
-use native.Mathlib.Nat.{mod-lt}
-use native.Mathlib.Omega.{arith}
-use Rattle.ntt.proofs.Whole.{rest, columns_ready, sent}
+use Rattle.ntt.proofs.Whole.{rest, sent}
 use Rattle.ntt.proofs.forward.Goals as goal
 
 pub returns : goal.returns

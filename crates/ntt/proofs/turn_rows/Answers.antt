@@ -1,6 +1,6 @@
 -- `ntt::turn_rows` meets its contract: after r turns the first r rows are done, and the others are as they were.
 -- Assumes nothing.
-use Rattle.ntt.proofs.Rows.{rows_none, rows_more, rows_ready, row_given, rows_turned}
+use Rattle.ntt.proofs.Rows.{rows_more, rows_ready, row_given}
 use Rattle.ntt.proofs.turn_rows.Goals as goal
 
 pub turn_row_at-requires : goal.turn_row_at-requires
