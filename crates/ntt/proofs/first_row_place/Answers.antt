@@ -2,15 +2,9 @@
 -- Assumes nothing.
 use mathlib.Core.Path.{ap, ◌∙◌}
 use Prim.Native.Nat.{ℕ, ◌*◌, ◌%◌}
-use native.Mathlib.Omega.{arith}
 use Rattle.montgomery.specs.Scaled.{unscale}
 use Rattle.ntt.specs.Rows.{first_row_at}
 use Rattle.ntt.proofs.first_row_place.Goals as goal
-
-pub column_total-total-requires : goal.column_total-total-requires
-column_total-total-requires c =
-    let pre = c.requires in
-    (pre.2, pre.3, pre.4, record { each = λ i h. omega (arith, pre.5.each i h, pre.0.modulus.small) })
 
 pub returns : goal.returns
 unfolding first_row_at

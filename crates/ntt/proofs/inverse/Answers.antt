@@ -10,22 +10,12 @@ use Rattle.montgomery.specs.Scaled.{unscale}
 use Rattle.ntt.proofs.Whole.{rest, front_changed, columns_ready, inverse_below, recovered}
 use Rattle.ntt.proofs.inverse.Goals as goal
 
-pub inverse_rows-requires : goal.inverse_rows-requires
-inverse_rows-requires c =
-    let pre = c.requires in
-    (record { modulus = c.negated_inverse-k.ensures; ready = pre.0; size = pre.2 }, pre.3)
-
 pub columns-requires : goal.columns-requires
 columns-requires c =
     let pre = c.requires in
     rw (rest c.args.tables.now (c.args.rows * 256 + 264))
     (columns_ready pre.0 c.negated_inverse-k.ensures (c.inverse_rows.auto.x ∙ pre.2) (omega arith) pre.1
     (inverse_below c.inverse_rows.ensures) (omega (arith, pre.0.modulus.small)))
-
-pub slice_bounds-settle-end : goal.slice_bounds-settle-end
-slice_bounds-settle-end c =
-    let pre = c.requires in
-    omega (arith, c.columns.auto.x, c.inverse_rows.auto.x, pre.2, mul-le-mul_right 256 pre.1)
 
 pub returns : goal.returns
 returns c w e made scale =

@@ -9,24 +9,6 @@ use Rattle.calls.proofs.Region.{region_part, region_length, over_lent}
 use Rattle.ntt.proofs.Rows.{row_inside}
 use Rattle.ntt.proofs.turn_row_at.Goals as goal
 
-pub overflow_mul-start : goal.overflow_mul-start
-overflow_mul-start c = let pre = c.requires in omega (arith, pre.1, pre.0.ready.few_rows)
-
-pub overflow_add-end : goal.overflow_add-end
-overflow_add-end c = let pre = c.requires in omega (arith, pre.1, pre.0.ready.few_rows)
-
-pub overflow_mul-row : goal.overflow_mul-row
-overflow_mul-row c = let pre = c.requires in omega (arith, pre.0.ready.few_rows)
-
-pub overflow_add-row_end : goal.overflow_add-row_end
-overflow_add-row_end c = let pre = c.requires in omega (arith, pre.0.ready.few_rows)
-
-pub offset_bounds-x-start : goal.offset_bounds-x-start
-offset_bounds-x-start c = let pre = c.requires in omega (arith, pre.1, pre.0.ready.few_rows)
-
-pub slice_bounds-turn_row-end : goal.slice_bounds-turn_row-end
-slice_bounds-turn_row-end c = let pre = c.requires in omega (arith, row_inside pre.0 pre.1, pre.0.size)
-
 pub turn_row-requires : goal.turn_row-requires
 turn_row-requires c =
     let a = c.args.r * 256 in

