@@ -34,6 +34,7 @@ pub fn substitution() -> [u8; 256]
 }
 
 // The substitution of one byte.
+// The tables are lent slices, and no struct with an invariant: `aes::cipher::encrypt` and `aes::key::expand` ask no more of their callers than these facts.
 fn substitute(sub: &[u8], b: u32) -> u8
     requires { SubstitutionTable sub.now × (b < 256) }
     ensures { result ≡ sbox b }

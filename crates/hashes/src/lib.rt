@@ -56,7 +56,7 @@ pub fn kmac256(key: &[u8], input: &[u8], customization: &[u8], out: &mut [u8]) -
     Ok(())
 }
 
-// KMACXOF256 as an open call.
+// KMACXOF256 as an open call. It stands beside `kmac256`, as both names are called from C, and each is one test and one call.
 pub fn kmacxof256(key: &[u8], input: &[u8], customization: &[u8], out: &mut [u8]) -> Answer
     ensures answer { outcome result ≡ kmac_answer key.now input.now customization.now out.old }
     ensures result { out.new ≡ kmacxof_left key.now input.now customization.now out.old }

@@ -2,22 +2,13 @@
 -- Assumes nothing.
 use mathlib.Core.Path.{◌≡◌, ap}
 use Prim.Native.Nat.{ℕ, ◌+◌, ◌*◌, ◌/◌, ◌%◌, ◌≤◌, ◌<◌}
-use native.Mathlib.Nat.{mul-zero, mul-add, mul-le-mul_left, mul-le-mul_right, div-add-mod', mod-lt}
+use native.Mathlib.Nat.{mul-add, mul-le-mul_left, mul-le-mul_right, div-add-mod', mod-lt}
 use native.Mathlib.Omega.{arith}
 
 -- digit j of `to` bits begins at the given bit of digit i of `from` bits
 pub record Position (from to i bit j : ℕ) : Type 0 where
   pub place : from * i + bit ≡ to * j
   pub low : bit < from
-
--- both begin at the first bit
-pub position_first : (from to : ℕ) → 0 < from → Position from to 0 0 0
-position_first from to h = record { place = omega (arith, mul-zero from, mul-zero to); low = h }
-
--- the next digit begins `to` bits further, with n digits passed
-pub position_next : {from to i bit j i' bit' : ℕ} (n : ℕ) → Position from to i bit j → i' ≡ i + n → from * n + bit' ≡ bit + to → bit' < from
-    → Position from to i' bit' (j + 1)
-position_next n p passed e h = record { place = rw passed (omega arith); low = h }
 
 -- numbers of 8 bits or more: no more are passed than bytes are written
 pub numbers_passed : {kept i bit j : ℕ} → Position kept 8 i bit j → 8 ≤ kept → i ≤ j

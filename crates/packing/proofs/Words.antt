@@ -4,7 +4,6 @@ use mathlib.Core.Path.{◌≡◌, refl, sym, ap, ◌∙◌}
 use mathlib.Core.List.{List}
 use Prim.Native.Nat.{ℕ, ◌+◌, ◌-◌, ◌*◌, ◌/◌, ◌%◌, ◌^◌, ◌≤◌, ◌<◌}
 use native.Mathlib.Nat.{mul-zero, mul-add, mul_assoc, mul_comm, div-one, one-mul, div-div-eq-div-mul, add-mul-div_left, div-lt_iff_lt-mul, mul-le-mul_left}
-use native.Mathlib.Nat.{mul-le-mul_right}
 use native.Mathlib.Omega.{arith}
 use lib.ListN.{length, drop, take, set}
 use lib.Pow.{pow-add, pow_pos}
@@ -109,7 +108,3 @@ module _ (f : ℕ → List ℕ) (long : (n : ℕ) → length (f n) ≡ n) (old :
         kept_length = refl;
         written = rw (begun_length, e) (sym (over_over old 0 _ (omega (arith, part_length)) _ refl));
       }
-
--- numbers of 8 bits or more: no more are taken than there are bytes, written or held
-pub numbers_taken : {kept i bits j held : ℕ} {xs : List ℕ} → Held kept xs i bits j held → 8 ≤ kept → 8 * i ≤ 8 * j + bits
-numbers_taken {i = i} h wide = omega (arith, h.place, mul-le-mul_right i wide)

@@ -93,6 +93,7 @@ fn pack_words(numbers: &[u32], width: u32, cmp: u32, out: &mut [u8]) -> usize
 }
 
 // Packs numbers of `width` bits each without their low `cmp` bits into all of `out`.
+// Both widths are plain numbers, as each caller reads them from the record of its set: a struct of the two would be made anew at every call.
 pub fn pack_dropping(numbers: &[u32], width: u32, cmp: u32, out: &mut [u8])
     requires widths { Widths width cmp }
     requires digit { Digit width numbers.now }
