@@ -1,7 +1,7 @@
 // What the programs that run known answers print and fill: numbers, bytes in hexadecimal, answers of open calls, checksums of long outputs, and patterns.
 #![tactic(auto)]
 
-ghost use Rattle.std.specs.Prelude.{ℕ, ◌≡◌, ◌+◌, ◌*◌, ◌<◌, ◌≤◌, length, get_or, take, drop};
+ghost use Rattle.std.specs.Prelude.{ℕ, ◌<◌, ◌≤◌, length, get_or};
 
 use calls::Answer;
 use std::fmt::Display;

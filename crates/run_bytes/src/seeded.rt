@@ -1,9 +1,8 @@
 // The draws from a seed, of 32 bytes of the store, and a draw over two blocks of the store. A line of a draw from a seed has, after the numbers of the case
 // and the place of the seed, which of the numbers drawn are printed and above which half a number is printed as a negative one; where none is, the line of
 // the case is printed.
-ghost use Rattle.std.specs.Prelude.{◌≡◌, ◌≤◌, ◌<◌, length};
+ghost use Rattle.std.specs.Prelude.{◌<◌};
 ghost use Rattle.sets.specs.Rules.{Rules, ByteRules};
-ghost use Rattle.sets.specs.Derived.{multiplier_count_of};
 
 use report::script::Line;
 use report::{Spaced, script};

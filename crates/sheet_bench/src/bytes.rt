@@ -77,7 +77,8 @@ pub fn copy_numbers(input: &[u8], from: usize, out: &mut [u32])
     }
 }
 
-// Fills `out` with the whole numbers in two's complement from `from` on.
+// Fills `out` with the whole numbers in two's complement from `from` on. Not one function with `copy_numbers`: a closure or a trait for the two conversions,
+// with what they mean in the clauses, is longer than two loops of one line.
 pub fn copy_signed(input: &[u8], from: usize, out: &mut [i32])
     requires { from + length out.old ≤ length input.now }
     ensures { out.new ≡ map signed (region input.now from (length out.old)) }

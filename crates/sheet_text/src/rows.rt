@@ -1,5 +1,5 @@
 // The lines of the sheet (01, The bench sheet), each appended to the text so far.
-ghost use Rattle.std.specs.Prelude.{◌≡◌, ◌++◌, ◌+◌, ◌≤◌, ◌<◌, ◌^◌, nat_abs, length};
+ghost use Rattle.std.specs.Prelude.{◌+◌, ◌≤◌, ◌<◌, ◌^◌, nat_abs, length};
 ghost use Rattle.sheet_text.specs.Text.{row, rows, last_line, sheet_text};
 ghost use Rattle.sheet_text.specs.Written.{Appended, Sealing};
 ghost use Rattle.sheet_order.specs.Sorting.{Places};

@@ -16,7 +16,6 @@ use Rattle.scheme.specs.Encryption.{errors}
 use Rattle.sets.proofs.Rules.{listed_rules}
 use Rattle.calls.proofs.Parts.{front_length, back_length}
 use Rattle.sheet_noise.proofs.Held.{work_room, secret_state_lem, never_refused, errors_written}
-use borrow.Author.Rules.{rules}
 use Rattle.sheet_noise.proofs.draw_errors.Goals.{After-error_count-count, After-residues_from, In-Ok}
 use Rattle.sheet_noise.proofs.draw_errors.Goals as goal
 

@@ -1,6 +1,5 @@
 -- Each turn writes the noise of the next place.
 -- Assumes nothing.
-use lib.ListN.{length}
 use Rattle.maths.specs.Vector.{at}
 use Rattle.draws.proofs.Laws.{Turned}
 use Rattle.sheet_noise.specs.Centred.{centred_noise}

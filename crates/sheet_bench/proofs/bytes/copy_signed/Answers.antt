@@ -8,7 +8,6 @@ use lib.IntN.{pos}
 use mir.Syntax.{w32}
 use mir.Val.{SFits}
 use mir.Facts.{to_z-of_z}
-use Rattle.sheet_bench.specs.Bench.{signed}
 use Rattle.sheet_bench.proofs.Numbers.{signed_length, signed_entry}
 use borrow.Author.Rules.{rules}
 use Rattle.sheet_bench.proofs.bytes.copy_signed.Goals as goal

@@ -1,7 +1,6 @@
 -- `sheet_bench::bytes::first_unfit` meets its contract: each byte that the loop has passed is in range.
 -- Assumes nothing.
 use mathlib.Core.Path.{sym, ◌∙◌}
-use mathlib.Core.Bool.{true}
 use native.Mathlib.Nat.{zero-add}
 use native.Mathlib.Omega.{arith}
 use lib.ListN.{length}
