@@ -1,4 +1,5 @@
 // The encryption scheme, sets 1 to 6, as functions for callers in C (include/titanium.h).
+// Functions of their own beside those of the key exchange, since the C interface has both.
 #![tactic(auto)]
 
 ghost use Rattle.std.specs.Prelude.{◌≡◌, length};

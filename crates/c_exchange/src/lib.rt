@@ -1,4 +1,5 @@
 // The key exchange, sets 7 to 12, as functions for callers in C (include/titanium.h).
+// Functions of their own beside those of the encryption scheme, since the C interface has both.
 #![tactic(auto)]
 
 ghost use Rattle.std.specs.Prelude.{◌≡◌, length};

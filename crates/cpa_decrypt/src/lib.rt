@@ -22,10 +22,8 @@ fn reduce_all(xs: &mut [u32], q: u32)
     requires { AllBelow (2 * q) (length xs.old) xs.old × (q < 2 ^ 24) }
     ensures { xs.new ≡ reduced q xs.old }
 {
-    let mut i: usize = 0;
-    while i < xs.len() {
-        xs[i] = residues::reduce_once(xs[i], q);
-        i += 1;
+    for x in xs.iter_mut() {
+        *x = residues::reduce_once(*x, q);
     }
 }
 
@@ -97,10 +95,8 @@ fn read_differences(p: Parameters, second: &mut [u32], correlations: &[u32])
         × AllBelow (2 * p.q) p.d second.old × AllBelow p.q p.d correlations.now }
     ensures { second.new ≡ difference_bits p second.old correlations.now }
 {
-    let mut j: usize = 0;
-    while j < second.len() {
-        second[j] = difference_bit(p, second[j], correlations[j]);
-        j += 1;
+    for (j, number) in second.iter_mut().enumerate() {
+        *number = difference_bit(p, *number, correlations[j]);
     }
 }
 

@@ -1,4 +1,5 @@
 // The encryption scheme as open calls for sets 1 to 6: key, encrypt and decrypt (01, How each call answers: Encryption scheme).
+// Each writes its three steps out, checks, draws and clearing, since a closure for the middle one would hold two slices that it writes.
 #![tactic(auto)]
 
 ghost use Rattle.std.specs.Prelude.{◌≡◌, length};
@@ -31,11 +32,9 @@ pub fn key(
     ensures cleared { work.new ≡ encryption_key_work set seed.now
         public.old secret.old work.old }
 {
-    let p = sets::parameters_of(set);
-    scheme_checks::key_checked(
+    let p = scheme_checks::key_checked(
         sets::ENCRYPTION,
         set,
-        p,
         seed.len(),
         public.len(),
         secret.len(),
@@ -62,11 +61,9 @@ pub fn encrypt(
     ensures cleared { work.new ≡ encrypt_work set public.now message.now seed.now
         ciphertext.old work.old }
 {
-    let p = sets::parameters_of(set);
-    scheme_checks::encrypt_checked(
+    let p = scheme_checks::encrypt_checked(
         sets::ENCRYPTION,
         set,
-        p,
         public.len(),
         message.len(),
         seed.len(),
@@ -113,11 +110,9 @@ pub fn decrypt(
     ensures cleared { work.new ≡ decrypt_work set secret.now ciphertext.now
         message.old work.old }
 {
-    let p = sets::parameters_of(set);
-    scheme_checks::decrypt_checked(
+    let p = scheme_checks::decrypt_checked(
         sets::ENCRYPTION,
         set,
-        p,
         secret.len(),
         ciphertext.len(),
         message.len(),

@@ -1,4 +1,5 @@
 // The key exchange as open calls for sets 7 to 12: key, encapsulate and decapsulate (01, How each call answers: Key exchange).
+// Each writes its three steps out, checks, draws and clearing, since a closure for the middle one would hold two slices that it writes.
 #![tactic(auto)]
 
 ghost use Rattle.std.specs.Prelude.{◌≡◌, length};
@@ -27,11 +28,9 @@ pub fn key(
     ensures cleared { work.new ≡ exchange_key_work set seed.now
         public.old secret.old work.old }
 {
-    let p = sets::parameters_of(set);
-    scheme_checks::key_checked(
+    let p = scheme_checks::key_checked(
         sets::EXCHANGE,
         set,
-        p,
         seed.len(),
         public.len(),
         secret.len(),
@@ -60,11 +59,9 @@ pub fn encapsulate(
     ensures cleared { work.new ≡ encapsulate_work set public.now message.now
         ciphertext.old shared.old work.old }
 {
-    let p = sets::parameters_of(set);
-    scheme_checks::encrypt_checked(
+    let p = scheme_checks::encrypt_checked(
         sets::EXCHANGE,
         set,
-        p,
         public.len(),
         message.len(),
         shared.len(),
@@ -91,11 +88,9 @@ pub fn decapsulate(
     ensures cleared { work.new ≡ decapsulate_work set secret.now ciphertext.now
         shared.old work.old }
 {
-    let p = sets::parameters_of(set);
-    scheme_checks::decrypt_checked(
+    let p = scheme_checks::decrypt_checked(
         sets::EXCHANGE,
         set,
-        p,
         secret.len(),
         ciphertext.len(),
         shared.len(),

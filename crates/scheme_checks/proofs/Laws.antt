@@ -8,7 +8,15 @@ use Rattle.std.specs.Prelude.{⊤, Result, Err, IsErrAnd}
 use Rattle.calls.specs.declared.Refusal.{Refusal}
 use Rattle.calls.specs.Outcome.{Outcome, accepted, and_then, leaves, outcome}
 use Rattle.calls.proofs.Outcome.{handed_on}
+use Rattle.std.proofs.lemmas.Result.{err_from_is_err_and}
+use Rattle.sets.specs.declared.Parameters.{Parameters}
 use Rattle.scheme.specs.Answers.{work_left}
+use Rattle.scheme_checks.specs.Checked.{Checked}
+
+-- what `?` hands on is the refusal of a check
+pub handed_refusal : (set : ℕ) {checks : Outcome} (e : Refusal) (r : Result Parameters Refusal) → IsErrAnd r (λ y. y ≡ e) → outcome (Err e) ≡ checks
+    → Checked set checks r
+handed_refusal set e r handed met = let same = err_from_is_err_and r handed in rw (same.1, same.2) met
 
 -- what a call with these checks and draws promises: its answer, an output, the work slice
 abbrev pub OneLeft : (checked draws o : Outcome) (new old out work left : List ℕ) → Type 0

@@ -138,10 +138,10 @@ module _ (set : ℕ) (seed message sealing public secret sealed read work : List
       sealed_size = (encrypt_passed is_encryption set _ _ _ _ _ fits.1).4
 
       -- encrypt is accepted
-      abbrev encrypted : Outcome
+      abbrev pub encrypted : Outcome
       encrypted = encrypt_answer set public₁ message sealing (length sealed) (length work₁)
 
-      encrypt_accepts : encrypted ≡ accepted
+      pub encrypt_accepts : encrypted ≡ accepted
       encrypt_accepts = rw (public_is, work_is, cleared_size, sealed_size) holds.sealing_accepts
 
       -- what encrypt promises

@@ -1,5 +1,6 @@
 // Key, encrypt and decrypt of the encryption scheme in one call, for sets 1 to 6, with demand 3 on what they give (01, What demand 3 speaks of): the self-test
 // of a delivery.
+// A call of its own beside `share_a_key`, since the C interface has both, with other slices.
 #![tactic(auto)]
 
 ghost use Rattle.std.specs.Prelude.{◌≡◌};
@@ -39,7 +40,6 @@ pub fn seal_and_read(
     scheme_checks::round_trip_checked(
         sets::ENCRYPTION,
         set,
-        sets::parameters_of(set),
         seed.len(),
         message.len(),
         sealing.len(),
@@ -50,6 +50,6 @@ pub fn seal_and_read(
         work.len(),
     )?;
     encryption::key(set, seed, public, secret, work)?;
-    encryption::encrypt(set, public, message, sealing, sealed, work);
+    encryption::encrypt(set, public, message, sealing, sealed, work)?;
     encryption::decrypt(set, secret, sealed, read, work)
 }

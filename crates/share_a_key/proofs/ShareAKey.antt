@@ -141,10 +141,10 @@ module _ (set : ℕ) (seed message public secret sealed sent received work : Lis
       sent_size = (encrypt_passed is_exchange set _ _ _ _ _ fits.1).3
 
       -- encapsulate is accepted
-      abbrev closed : Outcome
+      abbrev pub closed : Outcome
       closed = encapsulate_answer set public₁ (length message) (length sealed) (length sent) (length work₁)
 
-      encapsulate_accepts : closed ≡ accepted
+      pub encapsulate_accepts : closed ≡ accepted
       encapsulate_accepts = rw (public_is, work_is, cleared_size, sealed_size, sent_size) holds.sealing_accepts
 
       -- what encapsulate promises

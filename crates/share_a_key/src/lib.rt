@@ -1,5 +1,6 @@
 // Key, encapsulate and decapsulate of the key exchange in one call, for sets 7 to 12, with demand 3 on what they give (01, What demand 3 speaks of): the
 // self-test of a delivery.
+// A call of its own beside `seal_and_read`, since the C interface has both, with other slices.
 #![tactic(auto)]
 
 ghost use Rattle.std.specs.Prelude.{◌≡◌};
@@ -41,7 +42,6 @@ pub fn share_a_key(
     scheme_checks::round_trip_checked(
         sets::EXCHANGE,
         set,
-        sets::parameters_of(set),
         seed.len(),
         message.len(),
         sent.len(),
@@ -52,6 +52,6 @@ pub fn share_a_key(
         work.len(),
     )?;
     exchange::key(set, seed, public, secret, work)?;
-    exchange::encapsulate(set, public, message, sealed, sent, work);
+    exchange::encapsulate(set, public, message, sealed, sent, work)?;
     exchange::decapsulate(set, secret, sealed, received, work)
 }

@@ -12,33 +12,31 @@ use Rattle.sets.specs.Derived.{is_encryption}
 use Rattle.scheme.specs.Answers.{decrypt_checks, decrypt_draws, decrypt_answer, message_left, decrypt_work}
 use Rattle.scheme.proofs.Answers.{own_listed, own_bytes, decrypt_passed}
 use Rattle.scheme_checks.proofs.Laws.{one_refused, one_drawn}
-use Rattle.encryption.proofs.decrypt.Goals.{In_ok-decrypt_checked}
+use Rattle.encryption.proofs.decrypt.Goals.{In_ok-p}
 use Rattle.encryption.proofs.decrypt.Goals as goal
 
-pub decrypt_checked-requires : goal.decrypt_checked-requires
-decrypt_checked-requires c = c.parameters_of-p.ensures
-
 -- the checks passed
-passed : (c : In_ok-decrypt_checked) → let args = c.args in
+passed : (c : In_ok-p) → let args = c.args in
     decrypt_checks is_encryption args.set (length args.secret.now) (length args.ciphertext.now) (length args.message.now)
     (length args.work.now) ≡ accepted
 unfolding is_encryption
-passed c = sym c.in_ok-decrypt_checked.ensures
+passed c = sym c.in_ok-p.ensures.1
 
-pub returns-in_err-decrypt_checked : goal.returns-in_err-decrypt_checked
+pub returns-in_err-p : goal.returns-in_err-p
 unfolding is_encryption decrypt_answer message_left decrypt_work
-returns-in_err-decrypt_checked c =
+returns-in_err-p c =
     let args = c.args in
-    let p = set_of args.set in let whole = one_refused (decrypt_draws p args.secret.now args.ciphertext.now) args.work.now
+    let p = set_of args.set in
+    let whole = one_refused (decrypt_draws p args.secret.now args.ciphertext.now) args.work.now
     (decrypted_message p args.secret.now args.ciphertext.now) args.message.now
-    _ c.from_residual.result c.from_residual.ensures.1 c.in_err-decrypt_checked.ensures in record { answer = whole.0; read = whole.1.0; cleared = whole.1.1 }
+    _ c.from_residual.result c.from_residual.ensures.1 c.in_err-p.ensures in record { answer = whole.0; read = whole.1.0; cleared = whole.1.1 }
 
 pub decrypt_if_below-answer-requires : goal.decrypt_if_below-answer-requires
 decrypt_if_below-answer-requires c =
     let set = c.args.set in
-    let fit = decrypt_passed is_encryption set _ _ _ _ (passed (goal.at.decrypt_if_below-answer-requires c).In_ok-decrypt_checked) in
+    let fit = decrypt_passed is_encryption set _ _ _ _ (passed (goal.at.decrypt_if_below-answer-requires c).In_ok-p) in
     let other = encryption_only set fit.0.2 in
-    rw c.parameters_of-p.ensures (
+    rw c.in_ok-p.ensures.0 (
       own_bytes is_encryption set fit.0,
       own_listed is_encryption set fit.0,
       fit.1 ∙ secret_other set other,
@@ -53,7 +51,8 @@ returns c =
     let args = c.args in
     let p = set_of args.set in
     let made = c.decrypt_if_below-answer in
-    let left = rw c.parameters_of-p.ensures at made.ensures in let whole = one_drawn (decrypt_draws p args.secret.now args.ciphertext.now) args.work.now
+    let left = rw c.in_ok-p.ensures.0 at made.ensures in
+    let whole = one_drawn (decrypt_draws p args.secret.now args.ciphertext.now) args.work.now
     (decrypted_message p args.secret.now args.ciphertext.now) args.message.now
-    (passed (goal.at.returns c).In_ok-decrypt_checked) (left.answer, left.read) (c.clear.ensures ∙ ap (λ (n : ℕ). replicate n 0) made.auto.work) in
+    (passed (goal.at.returns c).In_ok-p) (left.answer, left.read) (c.clear.ensures ∙ ap (λ (n : ℕ). replicate n 0) made.auto.work) in
     record { answer = whole.0; read = whole.1.0; cleared = whole.1.1 }

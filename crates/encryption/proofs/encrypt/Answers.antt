@@ -12,32 +12,30 @@ use Rattle.scheme.specs.Encryption as scheme
 use Rattle.scheme.specs.Answers.{encrypt_checks, encrypt_draws, encrypt_answer, ciphertext_left, encrypt_work}
 use Rattle.scheme.proofs.Answers.{own_listed, own_bytes, encrypt_passed}
 use Rattle.scheme_checks.proofs.Laws.{one_refused, one_drawn}
-use Rattle.encryption.proofs.encrypt.Goals.{In_ok-encrypt_checked}
+use Rattle.encryption.proofs.encrypt.Goals.{In_ok-p}
 use Rattle.encryption.proofs.encrypt.Goals as goal
 
-pub encrypt_checked-requires : goal.encrypt_checked-requires
-encrypt_checked-requires c = c.parameters_of-p.ensures
-
 -- the checks passed
-passed : (c : In_ok-encrypt_checked) → let args = c.args in
+passed : (c : In_ok-p) → let args = c.args in
     encrypt_checks is_encryption args.set (length args.public.now) (length args.message.now) (length args.seed.now)
     (length args.ciphertext.now) (length args.work.now) ≡ accepted
 unfolding is_encryption
-passed c = sym c.in_ok-encrypt_checked.ensures
+passed c = sym c.in_ok-p.ensures.1
 
-pub returns-in_err-encrypt_checked : goal.returns-in_err-encrypt_checked
+pub returns-in_err-p : goal.returns-in_err-p
 unfolding is_encryption encrypt_answer ciphertext_left encrypt_work
-returns-in_err-encrypt_checked c =
+returns-in_err-p c =
     let args = c.args in
-    let p = set_of args.set in let whole = one_refused (encrypt_draws p args.public.now) args.work.now
+    let p = set_of args.set in
+    let whole = one_refused (encrypt_draws p args.public.now) args.work.now
     (scheme.ciphertext p args.public.now args.message.now args.seed.now) args.ciphertext.now
-    _ c.from_residual.result c.from_residual.ensures.1 c.in_err-encrypt_checked.ensures in record { answer = whole.0; given = whole.1.0; cleared = whole.1.1 }
+    _ c.from_residual.result c.from_residual.ensures.1 c.in_err-p.ensures in record { answer = whole.0; given = whole.1.0; cleared = whole.1.1 }
 
 pub encrypt-answer-requires : goal.encrypt-answer-requires
 encrypt-answer-requires c =
     let set = c.args.set in
-    let fit = encrypt_passed is_encryption set _ _ _ _ _ (passed (goal.at.encrypt-answer-requires c).In_ok-encrypt_checked) in
-    rw c.parameters_of-p.ensures (
+    let fit = encrypt_passed is_encryption set _ _ _ _ _ (passed (goal.at.encrypt-answer-requires c).In_ok-p) in
+    rw c.in_ok-p.ensures.0 (
       own_bytes is_encryption set fit.0,
       own_listed is_encryption set fit.0,
       fit.1,
@@ -53,7 +51,8 @@ returns c =
     let args = c.args in
     let p = set_of args.set in
     let made = c.encrypt-answer in
-    let left = rw c.parameters_of-p.ensures at made.ensures in let whole = one_drawn (encrypt_draws p args.public.now) args.work.now
+    let left = rw c.in_ok-p.ensures.0 at made.ensures in
+    let whole = one_drawn (encrypt_draws p args.public.now) args.work.now
     (scheme.ciphertext p args.public.now args.message.now args.seed.now) args.ciphertext.now
-    (passed (goal.at.returns c).In_ok-encrypt_checked) (left.answer, left.sealed) (c.clear.ensures ∙ ap (λ (n : ℕ). replicate n 0) made.auto.work) in
+    (passed (goal.at.returns c).In_ok-p) (left.answer, left.sealed) (c.clear.ensures ∙ ap (λ (n : ℕ). replicate n 0) made.auto.work) in
     record { answer = whole.0; given = whole.1.0; cleared = whole.1.1 }

@@ -12,33 +12,31 @@ use Rattle.sets.specs.Derived.{is_encryption}
 use Rattle.scheme.specs.Answers.{key_checks, key_draws, encryption_key_answer, encryption_public_left, encryption_secret_left, encryption_key_work}
 use Rattle.scheme.proofs.Answers.{own_listed, own_bytes, key_passed}
 use Rattle.scheme_checks.proofs.Laws.{two_refused, two_drawn}
-use Rattle.encryption.proofs.key.Goals.{In_ok-key_checked}
+use Rattle.encryption.proofs.key.Goals.{In_ok-p}
 use Rattle.encryption.proofs.key.Goals as goal
 
-pub key_checked-requires : goal.key_checked-requires
-key_checked-requires c = c.parameters_of-p.ensures
-
 -- the checks passed
-passed : (c : In_ok-key_checked) → let args = c.args in
+passed : (c : In_ok-p) → let args = c.args in
     key_checks is_encryption args.set (length args.seed.now) (length args.public.now) (length args.secret.now)
     (length args.work.now) ≡ accepted
 unfolding is_encryption
-passed c = sym c.in_ok-key_checked.ensures
+passed c = sym c.in_ok-p.ensures.1
 
-pub returns-in_err-key_checked : goal.returns-in_err-key_checked
+pub returns-in_err-p : goal.returns-in_err-p
 unfolding is_encryption encryption_key_answer encryption_public_left encryption_secret_left encryption_key_work
-returns-in_err-key_checked c =
+returns-in_err-p c =
     let args = c.args in
-    let p = set_of args.set in let whole = two_refused (key_draws p args.seed.now) args.work.now
+    let p = set_of args.set in
+    let whole = two_refused (key_draws p args.seed.now) args.work.now
     (public_key p args.seed.now) args.public.now
     (secret_seed p args.seed.now) args.secret.now
-    _ c.from_residual.result c.from_residual.ensures.1 c.in_err-key_checked.ensures in record { answer = whole.0; given = whole.1.0; kept = whole.1.1.0; cleared = whole.1.1.1 }
+    _ c.from_residual.result c.from_residual.ensures.1 c.in_err-p.ensures in record { answer = whole.0; given = whole.1.0; kept = whole.1.1.0; cleared = whole.1.1.1 }
 
 pub keygen-answer-requires : goal.keygen-answer-requires
 keygen-answer-requires c =
     let set = c.args.set in
-    let fit = key_passed is_encryption set _ _ _ _ (passed (goal.at.keygen-answer-requires c).In_ok-key_checked) in
-    rw c.parameters_of-p.ensures (
+    let fit = key_passed is_encryption set _ _ _ _ (passed (goal.at.keygen-answer-requires c).In_ok-p) in
+    rw c.in_ok-p.ensures.0 (
       own_bytes is_encryption set fit.0,
       own_listed is_encryption set fit.0,
       fit.1,
@@ -53,8 +51,9 @@ returns c =
     let args = c.args in
     let p = set_of args.set in
     let made = c.keygen-answer in
-    let left = rw c.parameters_of-p.ensures at made.ensures in let whole = two_drawn (key_draws p args.seed.now) args.work.now
+    let left = rw c.in_ok-p.ensures.0 at made.ensures in
+    let whole = two_drawn (key_draws p args.seed.now) args.work.now
     (public_key p args.seed.now) args.public.now
     (secret_seed p args.seed.now) args.secret.now
-    (passed (goal.at.returns c).In_ok-key_checked) (left.answer, (left.public, left.secret)) (c.clear.ensures ∙ ap (λ (n : ℕ). replicate n 0) made.auto.work) in
+    (passed (goal.at.returns c).In_ok-p) (left.answer, (left.public, left.secret)) (c.clear.ensures ∙ ap (λ (n : ℕ). replicate n 0) made.auto.work) in
     record { answer = whole.0; given = whole.1.0; kept = whole.1.1.0; cleared = whole.1.1.1 }

@@ -11,32 +11,30 @@ use Rattle.sets.specs.Derived.{is_exchange}
 use Rattle.scheme.specs.Answers.{decrypt_checks, decapsulate_draws, decapsulate_answer, decapsulated_left, decapsulate_work}
 use Rattle.scheme.proofs.Answers.{own_listed, own_bytes, decrypt_passed}
 use Rattle.scheme_checks.proofs.Laws.{one_refused, one_drawn}
-use Rattle.exchange.proofs.decapsulate.Goals.{In_ok-decrypt_checked}
+use Rattle.exchange.proofs.decapsulate.Goals.{In_ok-p}
 use Rattle.exchange.proofs.decapsulate.Goals as goal
 
-pub decrypt_checked-requires : goal.decrypt_checked-requires
-decrypt_checked-requires c = c.parameters_of-p.ensures
-
 -- the checks passed
-passed : (c : In_ok-decrypt_checked) → let args = c.args in
+passed : (c : In_ok-p) → let args = c.args in
     decrypt_checks is_exchange args.set (length args.secret.now) (length args.ciphertext.now) (length args.shared.now)
     (length args.work.now) ≡ accepted
 unfolding is_exchange
-passed c = sym c.in_ok-decrypt_checked.ensures
+passed c = sym c.in_ok-p.ensures.1
 
-pub returns-in_err-decrypt_checked : goal.returns-in_err-decrypt_checked
+pub returns-in_err-p : goal.returns-in_err-p
 unfolding is_exchange decapsulate_answer decapsulated_left decapsulate_work
-returns-in_err-decrypt_checked c =
+returns-in_err-p c =
     let args = c.args in
-    let p = set_of args.set in let whole = one_refused (decapsulate_draws p args.secret.now) args.work.now
+    let p = set_of args.set in
+    let whole = one_refused (decapsulate_draws p args.secret.now) args.work.now
     (decapsulated p args.secret.now args.ciphertext.now) args.shared.now
-    _ c.from_residual.result c.from_residual.ensures.1 c.in_err-decrypt_checked.ensures in record { answer = whole.0; agreed = whole.1.0; cleared = whole.1.1 }
+    _ c.from_residual.result c.from_residual.ensures.1 c.in_err-p.ensures in record { answer = whole.0; agreed = whole.1.0; cleared = whole.1.1 }
 
 pub decapsulated_key-answer-requires : goal.decapsulated_key-answer-requires
 decapsulated_key-answer-requires c =
     let set = c.args.set in
-    let fit = decrypt_passed is_exchange set _ _ _ _ (passed (goal.at.decapsulated_key-answer-requires c).In_ok-decrypt_checked) in
-    rw c.parameters_of-p.ensures (
+    let fit = decrypt_passed is_exchange set _ _ _ _ (passed (goal.at.decapsulated_key-answer-requires c).In_ok-p) in
+    rw c.in_ok-p.ensures.0 (
       own_bytes is_exchange set fit.0,
       own_listed is_exchange set fit.0,
       fit.1 ∙ secret_exchange set fit.0.2,
@@ -51,7 +49,8 @@ returns c =
     let args = c.args in
     let p = set_of args.set in
     let made = c.decapsulated_key-answer in
-    let left = rw c.parameters_of-p.ensures at made.ensures in let whole = one_drawn (decapsulate_draws p args.secret.now) args.work.now
+    let left = rw c.in_ok-p.ensures.0 at made.ensures in
+    let whole = one_drawn (decapsulate_draws p args.secret.now) args.work.now
     (decapsulated p args.secret.now args.ciphertext.now) args.shared.now
-    (passed (goal.at.returns c).In_ok-decrypt_checked) (left.answer, left.agreed) (c.clear.ensures ∙ ap (λ (n : ℕ). replicate n 0) made.auto.work) in
+    (passed (goal.at.returns c).In_ok-p) (left.answer, left.agreed) (c.clear.ensures ∙ ap (λ (n : ℕ). replicate n 0) made.auto.work) in
     record { answer = whole.0; agreed = whole.1.0; cleared = whole.1.1 }

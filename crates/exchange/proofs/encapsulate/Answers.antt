@@ -11,34 +11,32 @@ use Rattle.scheme.specs.Exchange.{encapsulated, shared_key}
 use Rattle.scheme.specs.Answers.{encrypt_checks, encrypt_draws, encapsulate_answer, encapsulated_left, shared_key_left, encapsulate_work}
 use Rattle.scheme.proofs.Answers.{own_listed, own_bytes, encrypt_passed}
 use Rattle.scheme_checks.proofs.Laws.{two_refused, two_drawn}
-use Rattle.exchange.proofs.encapsulate.Goals.{In_ok-encrypt_checked}
+use Rattle.exchange.proofs.encapsulate.Goals.{In_ok-p}
 use Rattle.exchange.proofs.encapsulate.Goals as goal
 
-pub encrypt_checked-requires : goal.encrypt_checked-requires
-encrypt_checked-requires c = c.parameters_of-p.ensures
-
 -- the checks passed
-passed : (c : In_ok-encrypt_checked) → let args = c.args in
+passed : (c : In_ok-p) → let args = c.args in
     encrypt_checks is_exchange args.set (length args.public.now) (length args.message.now) (length args.shared.now)
     (length args.ciphertext.now) (length args.work.now) ≡ accepted
 unfolding is_exchange
-passed c = sym c.in_ok-encrypt_checked.ensures
+passed c = sym c.in_ok-p.ensures.1
 
-pub returns-in_err-encrypt_checked : goal.returns-in_err-encrypt_checked
+pub returns-in_err-p : goal.returns-in_err-p
 unfolding is_exchange encapsulate_answer encapsulated_left shared_key_left encapsulate_work
-returns-in_err-encrypt_checked c =
+returns-in_err-p c =
     let args = c.args in
-    let p = set_of args.set in let whole = two_refused (encrypt_draws p args.public.now) args.work.now
+    let p = set_of args.set in
+    let whole = two_refused (encrypt_draws p args.public.now) args.work.now
     (encapsulated p args.public.now args.message.now) args.ciphertext.now
     (shared_key p args.public.now args.message.now) args.shared.now
-    _ c.from_residual.result c.from_residual.ensures.1 c.in_err-encrypt_checked.ensures in
+    _ c.from_residual.result c.from_residual.ensures.1 c.in_err-p.ensures in
     record { answer = whole.0; given = whole.1.0; agreed = whole.1.1.0; cleared = whole.1.1.1 }
 
 pub encapsulated_key-answer-requires : goal.encapsulated_key-answer-requires
 encapsulated_key-answer-requires c =
     let set = c.args.set in
-    let fit = encrypt_passed is_exchange set _ _ _ _ _ (passed (goal.at.encapsulated_key-answer-requires c).In_ok-encrypt_checked) in
-    rw c.parameters_of-p.ensures (
+    let fit = encrypt_passed is_exchange set _ _ _ _ _ (passed (goal.at.encapsulated_key-answer-requires c).In_ok-p) in
+    rw c.in_ok-p.ensures.0 (
       own_bytes is_exchange set fit.0,
       own_listed is_exchange set fit.0,
       fit.1,
@@ -54,8 +52,9 @@ returns c =
     let args = c.args in
     let p = set_of args.set in
     let made = c.encapsulated_key-answer in
-    let left = rw c.parameters_of-p.ensures at made.ensures in let whole = two_drawn (encrypt_draws p args.public.now) args.work.now
+    let left = rw c.in_ok-p.ensures.0 at made.ensures in
+    let whole = two_drawn (encrypt_draws p args.public.now) args.work.now
     (encapsulated p args.public.now args.message.now) args.ciphertext.now
     (shared_key p args.public.now args.message.now) args.shared.now
-    (passed (goal.at.returns c).In_ok-encrypt_checked) (left.answer, (left.given, left.agreed)) (c.clear.ensures ∙ ap (λ (n : ℕ). replicate n 0) made.auto.work) in
+    (passed (goal.at.returns c).In_ok-p) (left.answer, (left.given, left.agreed)) (c.clear.ensures ∙ ap (λ (n : ℕ). replicate n 0) made.auto.work) in
     record { answer = whole.0; given = whole.1.0; agreed = whole.1.1.0; cleared = whole.1.1.1 }

@@ -1,46 +1,40 @@
 -- `scheme_checks::decrypt_checked` meets its contract: the set is looked at before the lengths, which are the set's.
 -- Assumes nothing.
-use mathlib.Core.Path.{sym, ◌∙◌}
-use native.Mathlib.Omega.{arith}
-use borrow.Author.Rules.{rules}
-use Rattle.calls.proofs.Outcome.{handed_on}
-use Rattle.sets.specs.Rules.{Rules}
+use mathlib.Core.Path.{◌≡◌, sym, ap, ◌∙◌}
+use Rattle.calls.specs.Outcome.{outcome}
+use Rattle.scheme_checks.proofs.Laws.{handed_refusal}
 use Rattle.sets.specs.Derived.{is_of}
-use Rattle.sets.proofs.Rules.{rules_of}
 use Rattle.scheme.specs.Answers.{checks, decrypt_checks}
 use Rattle.scheme.proofs.Answers.{Own, set_range, set_refuses, lengths_decide}
-use Rattle.scheme_checks.proofs.decrypt_checked.Goals.{In_ok-set_checked}
+use Rattle.scheme_checks.proofs.decrypt_checked.Goals.{After-lengths_checked, In_ok-p}
 use Rattle.scheme_checks.proofs.decrypt_checked.Goals as goal
 
 -- the set is one of the scheme's
-own : (c : In_ok-set_checked) → Own (is_of c.args.number) c.args.set
-own c = set_range _ _ (sym c.in_ok-set_checked.ensures)
+own : (c : In_ok-p) → Own (is_of c.args.number) c.args.set
+own c = set_range _ _ (sym c.in_ok-p.ensures.1)
 
--- so that its record keeps the rules
-kept : (c : In_ok-set_checked) → Rules c.args.p
-kept c = rules_of c.args.set (omega (arith, (own c).1)) _ c.requires
-
-pub returns-in_err-set_checked : goal.returns-in_err-set_checked
+pub returns-in_err-p : goal.returns-in_err-p
 unfolding checks decrypt_checks
-returns-in_err-set_checked c = handed_on _ c.from_residual.result c.from_residual.ensures.1 ∙ sym (set_refuses _ _ _ (sym c.in_err-set_checked.ensures))
+returns-in_err-p c = handed_refusal c.args.set _ c.from_residual.result c.from_residual.ensures.1 (sym (set_refuses _ _ _ (sym c.in_err-p.ensures)))
 
-pub secret_key_bytes-requires : goal.secret_key_bytes-requires
-secret_key_bytes-requires c = kept c
-
-pub ciphertext_bytes-requires : goal.ciphertext_bytes-requires
-ciphertext_bytes-requires c = kept (goal.at.ciphertext_bytes-requires c).In_ok-set_checked
-
-pub work_length-requires : goal.work_length-requires
-work_length-requires c = kept (goal.at.work_length-requires c).In_ok-set_checked
-
-pub returns : goal.returns
+-- the lengths decide
+decided : (c : After-lengths_checked) → let args = c.args in
+    outcome c.lengths_checked.result ≡ decrypt_checks (is_of args.number) args.set args.secret args.ciphertext args.given args.work
 unfolding decrypt_checks
-returns c =
+decided c =
     c.lengths_checked.ensures
     ∙ rw (
       c.work_length.ensures,
       c.ciphertext_bytes.ensures,
       c.secret_key_bytes.ensures,
-      c.requires,
+      c.in_ok-p.ensures.0,
     )
-    (sym (lengths_decide _ _ _ _ _ (own (goal.at.returns c).In_ok-set_checked)))
+    (sym (lengths_decide _ _ _ _ _ (own (goal.at.After-lengths_checked c).In_ok-p)))
+
+pub returns-in_err-lengths_checked : goal.returns-in_err-lengths_checked
+returns-in_err-lengths_checked c =
+    handed_refusal c.args.set _ c.from_residual-in_err-lengths_checked.result c.from_residual-in_err-lengths_checked.ensures.1
+    (sym (ap outcome c.in_err-lengths_checked.was) ∙ decided (goal.at.returns-in_err-lengths_checked c).After-lengths_checked)
+
+pub returns : goal.returns
+returns c = (c.in_ok-p.ensures.0, sym (ap outcome c.in_ok-lengths_checked.was) ∙ decided (goal.at.returns c).After-lengths_checked)
