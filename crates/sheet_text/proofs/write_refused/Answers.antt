@@ -17,7 +17,8 @@ unfolding text.refused_text text.refused_word
 push_number-requires c =
     let fits = refused_length c.args.number c.args.place c.ranges.number.fits c.ranges.place.fits in
     let a = decimal c.args.number ++ space in
-    room_next c.push_bytes.ensures a (room_front (length c.new-text.result) (refused_word ++ a) (decimal c.args.place ++ newline) (omega (arith, ap length c.new-text.ensures)))
+    let end = decimal c.args.place ++ newline in
+    room_next c.push_bytes.ensures a (room_front (length c.new-text.result) (refused_word ++ a) end (omega (arith, ap length c.new-text.ensures)))
 
 pub push_number-requires-2 : goal.push_number-requires-2
 unfolding text.refused_text text.refused_word
