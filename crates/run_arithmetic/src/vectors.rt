@@ -6,6 +6,7 @@ ghost use Rattle.sets.specs.Table.{Listed};
 ghost use Rattle.ntt_products.specs.Placed.{Placed, table_length_of};
 
 use crate::fills;
+use ntt_products::WhichRoot;
 use report::script::Command;
 use sets::Parameters;
 use std::io;
@@ -46,7 +47,7 @@ fn send(
     requires { Listed p }
 {
     if ready(p, i, n, tables, x) {
-        ntt_products::load_tables(p, i, tables);
+        ntt_products::load_tables(p, i, WhichRoot::Own, tables);
         ntt_products::send_first(p, i, tables, x, n);
         report::number_sum(rt, x)?;
     }
@@ -65,8 +66,8 @@ fn send_inverse(
     requires { Listed p }
 {
     if ready(p, i, n, tables, x) {
-        ntt_products::load_inverse_tables(p, i, tables);
-        ntt_products::send_first_inverse(p, i, tables, x, n);
+        ntt_products::load_tables(p, i, WhichRoot::Inverse, tables);
+        ntt_products::send_first(p, i, tables, x, n);
         report::number_sum(rt, x)?;
     }
     Ok(())
@@ -84,7 +85,7 @@ fn recover(
 {
     let size = x.len();
     if ready(p, i, size, tables, x) {
-        ntt_products::load_inverse_tables(p, i, tables);
+        ntt_products::load_tables(p, i, WhichRoot::Inverse, tables);
         ntt_products::recover_first(p, i, tables, x, size);
         report::number_sum(rt, x)?;
     }
@@ -103,8 +104,8 @@ fn recover_inverse(
 {
     let size = x.len();
     if ready(p, i, size, tables, x) {
-        ntt_products::load_tables(p, i, tables);
-        ntt_products::recover_first_inverse(p, i, tables, x, size);
+        ntt_products::load_tables(p, i, WhichRoot::Own, tables);
+        ntt_products::recover_first(p, i, tables, x, size);
         report::number_sum(rt, x)?;
     }
     Ok(())
@@ -136,7 +137,7 @@ fn correlate(
     let size = stored.len();
     if 0 < n && ready(p, i, n, tables, x) && ready(p, i, size, tables, stored) {
         let m = settled(size, n);
-        ntt_products::load_tables(p, i, tables);
+        ntt_products::load_tables(p, i, WhichRoot::Own, tables);
         ntt_products::correlate(p, i, tables, x, n, stored, m);
         report::number_sum(rt, report::numbers(x, 0, m))?;
     }

@@ -49,7 +49,7 @@ drawn c =
 pub send_first-requires : goal.send_first-requires
 send_first-requires c =
     let placed = drawn_placed c.args.p c.requires.1 (state (goal.at.send_first-requires c).Start) c.args.y.now _ c.requires.5 in
-    (c.requires.1, c.requires.2, placed (drawn (goal.at.send_first-requires c).In-Counter))
+    (c.requires.1, c.requires.2.lent, placed (drawn (goal.at.send_first-requires c).In-Counter))
 
 -- the answer is that of a draw of n numbers
 answered : (c : After-residues_from-drawn)
@@ -70,5 +70,5 @@ returns c =
     record {
       answer = answered (goal.at.returns c).After-residues_from-drawn;
       result = drawn_sent c.args.p c.requires.1 (state (goal.at.returns c).Start)
-          c.args.y.now _ c.requires.5 (drawn (goal.at.returns c).In-Counter) _ c.send_first.ensures;
+          c.args.y.now _ c.requires.5 (drawn (goal.at.returns c).In-Counter) _ (c.send_first.ensures.root c.requires.2);
     }

@@ -9,4 +9,4 @@ load_tables-requires g c =
 pub send_first-requires : goal.send_first-requires
 send_first-requires g c =
     let ok = c.ready.ensures c.if-ready.true in
-    (c.requires, c.load_tables.ensures, ok.1)
+    (c.requires, c.load_tables.ensures.lent, ok.1)
