@@ -27,7 +27,7 @@ pub extern "C" fn measured_tables(set: usize, i: usize, out: &mut [u32])
     ntt_products::load_tables(sets::parameters_of(set), i, WhichRoot::Own, out);
 }
 
-// The tables of its inverse.
+// The tables of its inverse; a function of its own, since the C interface of the benchmark has a name for each.
 #[unsafe(no_mangle)]
 pub extern "C" fn measured_inverse_tables(set: usize, i: usize, out: &mut [u32])
     requires { IsSet set × (length out.old ≡ table_length_of (set_of set) i) }
