@@ -15,6 +15,7 @@ ghost use Rattle.scheme.specs.Answers.{work_length_of, only_residues, secret_dra
 ghost use Rattle.cpa_decrypt.specs.Decrypted.{reduced, first_correlations, difference_bit_of, difference_bits, decrypted_bits_from, decrypted_message_from};
 
 use calls::Answer;
+use ntt_products::WhichRoot;
 use sets::Parameters;
 
 // Takes each number modulo q; all of them are below 2 · q.
@@ -42,7 +43,7 @@ fn recover_first(p: Parameters, packed: &[u8], tables: &mut [u32], x: &mut [u32]
 {
     packing::unpack_into(packed, p.width, x);
     reduce_all(x, p.q);
-    ntt_products::load_inverse_tables(p, 2, tables);
+    ntt_products::load_tables(p, 2, WhichRoot::Inverse, tables);
     ntt_products::recover_first(p, 2, tables, x, first_count(p));
 }
 
@@ -75,7 +76,7 @@ fn correlate_first(
         &mut tables[0..room],
         &mut x[0..size],
     );
-    ntt_products::load_tables(p, 3, tables);
+    ntt_products::load_tables(p, 3, WhichRoot::Own, tables);
     ntt_products::correlate(p, 3, tables, x, first_count(p), stored, p.d);
 }
 

@@ -17,6 +17,7 @@ ghost use Rattle.scheme.specs.Encryption.{public_polynomial, first_bytes_of};
 ghost use Rattle.cpa_encrypt.specs.Parts.{Multipliers, packed_first};
 
 use calls::Answer;
+use ntt_products::WhichRoot;
 use samplers::Advance;
 use sets::Parameters;
 
@@ -77,7 +78,7 @@ fn first_with_buffers(
     ensures left { out.new ≡ leaves (refuse (not (all_taken p.t (public_drawn p seed.now))) 5 0 accepted)
         (packed_first p seed.now multipliers.now) out.old }
 {
-    ntt_products::load_tables(p, 2, tables);
+    ntt_products::load_tables(p, 2, WhichRoot::Own, tables);
     calls::clear(total);
     sum_products(p, seed, multipliers, tables, total, x, y)?;
     packing::pack_into(total, p.width, out);

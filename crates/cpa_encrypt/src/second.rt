@@ -11,6 +11,7 @@ ghost use Rattle.ntt_products.specs.Placed.{table_length_of, RootTables, RowsRec
 ghost use Rattle.scheme.specs.Encryption.{second_bytes};
 ghost use Rattle.cpa_encrypt.specs.Parts.{Multipliers, KeyResidues, message_added, second_sums, packed_second};
 
+use ntt_products::WhichRoot;
 use sets::Parameters;
 
 // Adds up in `total` the products of the multiplier polynomials, sent, and the stored b_i.
@@ -50,7 +51,7 @@ fn sum_rows(
     ensures { RowsRecovered p 1 (totals p.q (transform_size_of p 1) p.t (λ i. sent p 1 (vector (p.k + 1) multipliers.now i))
         (λ i. vector p.d1 numbers.now i)) total.new }
 {
-    ntt_products::load_tables(p, 1, tables);
+    ntt_products::load_tables(p, 1, WhichRoot::Own, tables);
     calls::clear(total);
     sum_stored(p, numbers, multipliers, tables, total, x);
     ntt_products::recover_rows(p, 1, tables, total);

@@ -16,6 +16,7 @@ ghost use Rattle.scheme.specs.Answers.{work_length_of, is_taken, all_taken};
 ghost use Rattle.cpa_keygen.specs.Held.{vectors_start_of, Held, sums, held_vector, stored_vector};
 
 use calls::Answer;
+use ntt_products::WhichRoot;
 use samplers::Advance;
 use sets::Parameters;
 
@@ -94,7 +95,7 @@ fn store_vector(p: Parameters, i: usize, tables: &[u32], x: &[u32], work: &mut [
     let end = start + size;
     calls::copy_in(work, start, &x[0..size]);
     let n = vector_length(p);
-    ntt_products::send_first_inverse(p, 1, tables, &mut work[start..end], n);
+    ntt_products::send_first(p, 1, tables, &mut work[start..end], n);
 }
 
 // Draws the polynomial ā_i into the front of `x`.
@@ -168,8 +169,8 @@ fn vectors_with_buffers(
     ensures result { all_taken p.t (public_drawn p seed.now) ≡ true → work.new ≡ over work.old (vectors_start_of p)
         (joined p.t (stored_vector p seed.now work.old)) }
 {
-    ntt_products::load_tables(p, 3, tables);
-    ntt_products::load_inverse_tables(p, 1, inverse_tables);
+    ntt_products::load_tables(p, 3, WhichRoot::Own, tables);
+    ntt_products::load_tables(p, 1, WhichRoot::Inverse, inverse_tables);
     all_vectors(p, seed, tables, inverse_tables, x, work)
 }
 

@@ -7,6 +7,8 @@ ghost use Rattle.sets.specs.Derived.{transform_size_of};
 ghost use Rattle.ntt_products.specs.Stored.{sent, recovered};
 ghost use Rattle.ntt_products.specs.Placed.{Placed, table_length_of, RootTables, InverseTables};
 
+use ntt_products::WhichRoot;
+
 // How many places the tables of transform number i of a set have.
 #[unsafe(no_mangle)]
 pub extern "C" fn measured_table_length(set: usize, i: usize) -> usize
@@ -22,16 +24,16 @@ pub extern "C" fn measured_tables(set: usize, i: usize, out: &mut [u32])
     requires { IsSet set × (length out.old ≡ table_length_of (set_of set) i) }
     ensures { RootTables (set_of set) i out.new }
 {
-    ntt_products::load_tables(sets::parameters_of(set), i, out);
+    ntt_products::load_tables(sets::parameters_of(set), i, WhichRoot::Own, out);
 }
 
-// The tables of its inverse.
+// The tables of its inverse; a function of its own, since the C interface of the benchmark has a name for each.
 #[unsafe(no_mangle)]
 pub extern "C" fn measured_inverse_tables(set: usize, i: usize, out: &mut [u32])
     requires { IsSet set × (length out.old ≡ table_length_of (set_of set) i) }
     ensures { InverseTables (set_of set) i out.new }
 {
-    ntt_products::load_inverse_tables(sets::parameters_of(set), i, out);
+    ntt_products::load_tables(sets::parameters_of(set), i, WhichRoot::Inverse, out);
 }
 
 // The transform of the first n numbers.

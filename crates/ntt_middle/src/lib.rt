@@ -13,6 +13,7 @@ ghost use Rattle.ntt_middle.specs.Calls.{numbers_checked_of, transformed_answer,
 ghost use Rattle.ntt_middle.specs.Lengths.{Lengths};
 
 use calls::Answer;
+use ntt_products::WhichRoot;
 use sets::Parameters;
 
 // Stores `b` in the work slice, sent with the inverse of the root of a set's largest transform.
@@ -21,9 +22,9 @@ fn store(p: Parameters, b: &[u32], tables: &mut [u32], work: &mut [u32])
         × (length b.now ≤ transform_size_of p 3) × AllBelow p.q (length b.now) b.now }
     ensures { work.new ≡ sent_inverse p 3 b.now }
 {
-    ntt_products::load_inverse_tables(p, 3, tables);
+    ntt_products::load_tables(p, 3, WhichRoot::Inverse, tables);
     calls::copy_in(work, 0, b);
-    ntt_products::send_first_inverse(p, 3, tables, work, b.len());
+    ntt_products::send_first(p, 3, tables, work, b.len());
 }
 
 // The middle product as the correlation of the reversed `a` with the stored `b`; `tables` and `x` are lent for the way.
@@ -42,7 +43,7 @@ fn correlate_stored(
     ensures { out.new ≡ middle_product_of p.q a.now b.now (length out.old) }
 {
     store(p, b, tables, work);
-    ntt_products::load_tables(p, 3, tables);
+    ntt_products::load_tables(p, 3, WhichRoot::Own, tables);
     ntt_middle_checks::load_reversed(x, a);
     ntt_products::correlate(p, 3, tables, x, a.len(), work, out.len());
     calls::copy_out(out, x, 0);

@@ -10,6 +10,7 @@ ghost use Rattle.ntt_products.specs.Stored.{root_inverse_of, size_inverse_of, se
 ghost use Rattle.ntt_products.specs.Placed.{table_length_of};
 ghost use Rattle.ntt_partial_steps.specs.Split.{Split, Wide};
 
+use ntt_products::WhichRoot;
 use sets::Parameters;
 
 // The transform of the first `m` rows by written-out sums.
@@ -61,7 +62,7 @@ pub fn forward_wide(p: Parameters, i: usize, m: usize, input: &[u32], out: &mut 
     let length = ntt_products::table_length(p, i);
     let tables = &mut room[0..length];
     calls::copy_in(out, 0, &input[0..end]);
-    ntt_products::load_tables(p, i, tables);
+    ntt_products::load_tables(p, i, WhichRoot::Own, tables);
     ntt_products::send_first(p, i, tables, out, end);
 }
 
@@ -77,7 +78,7 @@ pub fn inverse_wide(p: Parameters, i: usize, m: usize, input: &[u32], out: &mut 
     let tables = &mut room[0..length];
     let x = &mut places[0..input.len()];
     x.copy_from_slice(input);
-    ntt_products::load_inverse_tables(p, i, tables);
+    ntt_products::load_tables(p, i, WhichRoot::Inverse, tables);
     ntt_products::recover_first(p, i, tables, x, end);
     out.copy_from_slice(&x[0..end]);
 }

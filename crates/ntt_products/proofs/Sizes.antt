@@ -26,6 +26,9 @@ use Rattle.sets.specs.Rules.{Rules, ByteRules}
 use Rattle.sets.proofs.Rules.{listed_rules, listed_cases}
 use Rattle.sets.proofs.Transforms.{by_size, size_most}
 use Rattle.roots.proofs.Laws.{listed_root}
+use Rattle.ntt_products.specs.declared.WhichRoot.{WhichRoot}
+use Rattle.ntt_products.specs.declared.WhichRoot.TheVariants.{Own, Inverse}
+use Rattle.ntt_products.specs.Placed.{SetLent, SetTables, TablesOf, root_of}
 use Rattle.ntt_products.specs.Stored.{row_count, root_inverse_of, size_inverse_of, inverse_powers}
 
 -- the front of a list whose front was lent and came back as ys
@@ -156,36 +159,18 @@ module _ (p : Parameters) (known : Listed p) (i : ℕ) where
             (mod-lt _ (omega (arith, some_modulus p known i)));
       })
 
-  -- the tables of the root
-  pub root_ordered : {tables : List ℕ} → region tables 0 (transform_size_of p i) ≡ root_powers p i
-      → OrderedPowers p.q p.row (row_count p i) (transform_root p i) tables
-  unfolding root_powers
-  root_ordered table = ordered (rows_root p known i) table
+  -- the tables of the root and of its inverse
+  pub powers_ordered : (which : WhichRoot) → {tables : List ℕ}
+      → region tables 0 (transform_size_of p i) ≡ power_table p.q (root_of which p i) (transform_size_of p i)
+      → OrderedPowers p.q p.row (row_count p i) (root_of which p i) tables
+  powers_ordered Own table = ordered (rows_root p known i) table
+  powers_ordered Inverse table = ordered (rows_root_inverse p known i) table
 
-  pub root_below : {tables : List ℕ} → region tables 0 (transform_size_of p i) ≡ root_powers p i
-      → AllBelow p.q (row_count p i * p.row) tables
-  unfolding root_powers
-  root_below table = table_below (transform_root p i) table
-
-  -- and of its inverse
-  pub inverse_ordered : {tables : List ℕ} → region tables 0 (transform_size_of p i) ≡ inverse_powers p i
-      → OrderedPowers p.q p.row (row_count p i) (root_inverse_of p i) tables
-  unfolding inverse_powers
-  inverse_ordered table = ordered (rows_root_inverse p known i) table
-
-  pub inverse_powers_below : {tables : List ℕ} → region tables 0 (transform_size_of p i) ≡ inverse_powers p i
-      → AllBelow p.q (row_count p i * p.row) tables
-  unfolding inverse_powers
-  inverse_powers_below table = table_below (root_inverse_of p i) table
-
--- the powers of a root are as many as its transform has places
-pub root_powers_length : (p : Parameters) (i : ℕ) → length (root_powers p i) ≡ transform_size_of p i
-unfolding root_powers
-root_powers_length p i = power_table_length _ _ _
-
-pub inverse_powers_length : (p : Parameters) (i : ℕ) → length (inverse_powers p i) ≡ transform_size_of p i
-unfolding inverse_powers
-inverse_powers_length p i = power_table_length _ _ _
+-- tables that may be lent, and are of a root
+pub tables_of : (which : WhichRoot) (p : Parameters) (i : ℕ) {tables : List ℕ} → SetLent p i tables → SetTables p i (root_of which p i) tables
+    → TablesOf which p i tables
+tables_of Own p i l t = record { lent = l; root = t }
+tables_of Inverse p i l t = record { lent = l; root = t }
 
 -- the table of the root, inverted, is that of its inverse
 pub inverted_powers : (p : Parameters) (known : Listed p) (i : ℕ) {old new : List ℕ} → old ≡ root_powers p i → InvertedTable old new

@@ -4,6 +4,8 @@ use Rattle.std.specs.Prelude.{◌≡◌, List, ℕ, ◌+◌, ◌*◌, ◌≤◌,
 use Rattle.maths.specs.Vector.{at, AllBelow}
 use Rattle.sets.specs.declared.Parameters.{Parameters}
 use Rattle.sets.specs.Derived.{transform_size_of, transform_root}
+use Rattle.ntt_products.specs.declared.WhichRoot.{WhichRoot}
+use Rattle.ntt_products.specs.declared.WhichRoot.TheVariants.{Own, Inverse}
 use Rattle.ntt.specs.Rows.{first_row_at}
 use Rattle.ntt_by_row.specs.Lent.{Lent, TablesFor}
 use Rattle.ntt_products.specs.Stored.{row_count, root_inverse_of, row_scale, sent, unscaled, recovered_inverse}
@@ -39,6 +41,15 @@ pub record RootTables (p : Parameters) (i : ℕ) (tables : List ℕ) : Type 0 wh
 pub record InverseTables (p : Parameters) (i : ℕ) (tables : List ℕ) : Type 0 where
   pub lent : SetLent p i tables
   pub root : SetTables p i (root_inverse_of p i) tables
+
+-- root number i or its inverse, and the tables of either
+abbrev pub root_of : WhichRoot → Parameters → ℕ → ℕ
+root_of Own p i = transform_root p i
+root_of Inverse p i = root_inverse_of p i
+
+abbrev pub TablesOf : WhichRoot → Parameters → ℕ → List ℕ → Type 0
+TablesOf Own p i tables = RootTables p i tables
+TablesOf Inverse p i tables = InverseTables p i tables
 
 -- new has the rows of an inverse transform of old, which is stored with the inverse of root number i: the sums of its columns recover the first row
 pub record RowsRecovered (p : Parameters) (i : ℕ) (old new : List ℕ) : Type 0 where

@@ -3,6 +3,7 @@
 #![tactic(auto)]
 
 ghost use Rattle.std.specs.Prelude.{◌≡◌, map, ℕ, ◌+◌, ◌≤◌, ◌<◌, length, take};
+ghost use Rattle.maths.specs.Root.{power_table};
 ghost use Rattle.maths.specs.Transform.{send, recover};
 ghost use Rattle.maths.specs.Vector.{AllBelow};
 ghost use Rattle.calls.specs.Region.{over};
@@ -12,9 +13,16 @@ ghost use Rattle.sets.specs.Rules.{Rules, ByteRules};
 ghost use Rattle.montgomery.specs.Scaled.{scale, Odd, Modulus};
 ghost use Rattle.ntt_products.specs.Stored.{row_count, size_inverse_of, row_scale, inverse_powers, sent, sent_inverse, recovered_inverse, recovered};
 ghost use Rattle.ntt_products.specs.Stored.{unscaled, products, accumulated, correlations};
-ghost use Rattle.ntt_products.specs.Placed.{Placed, SentScaled, table_length_of, SetLent, SetTables, RootTables, InverseTables, RowsRecovered};
+ghost use Rattle.ntt_products.specs.Placed.{Placed, SentScaled, table_length_of, SetLent, SetTables, RootTables, InverseTables, TablesOf, root_of, RowsRecovered};
 
 use sets::Parameters;
+
+// Which root a transform goes with: root number i of a set, or its inverse.
+#[derive(Clone, Copy)]
+pub enum WhichRoot {
+    Own,
+    Inverse,
+}
 
 // Multiplies each number of `x` by the one that the number of `y` at its place is the scaled form of.
 fn multiply(x: &mut [u32], y: &[u32], q: u32, k: u32)
@@ -98,23 +106,24 @@ pub fn table_length(p: Parameters, i: usize) -> usize
     sets::derived::transform_size(p, i) + 264 + rows_of(p, i)
 }
 
-// Fills `out` with the tables of root number i of a set.
-pub fn load_tables(p: Parameters, i: usize, out: &mut [u32])
-    requires { Listed p × (length out.old ≡ table_length_of p i) }
-    ensures { RootTables p i out.new }
+// Fills `out` with the powers of either root.
+fn load_powers(p: Parameters, i: usize, which: WhichRoot, out: &mut [u32])
+    requires { Listed p × (length out.old ≡ transform_size_of p i) }
+    ensures { out.new ≡ power_table p.q (root_of which p i) (transform_size_of p i) }
 {
-    let size = sets::derived::transform_size(p, i);
-    roots::load_powers(p, i, &mut out[0..size]);
-    ntt_by_row::fill_tables(out, rows_of(p, i), p.row, p.q);
+    match which {
+        WhichRoot::Own => roots::load_powers(p, i, out),
+        WhichRoot::Inverse => load_inverse_powers(p, i, out),
+    }
 }
 
-// Fills `out` with the tables of the inverse of root number i of a set.
-pub fn load_inverse_tables(p: Parameters, i: usize, out: &mut [u32])
+// Fills `out` with the tables of root number i of a set, or of its inverse.
+pub fn load_tables(p: Parameters, i: usize, which: WhichRoot, out: &mut [u32])
     requires { Listed p × (length out.old ≡ table_length_of p i) }
-    ensures { InverseTables p i out.new }
+    ensures { TablesOf which p i out.new }
 {
     let size = sets::derived::transform_size(p, i);
-    load_inverse_powers(p, i, &mut out[0..size]);
+    load_powers(p, i, which, &mut out[0..size]);
     ntt_by_row::fill_tables(out, rows_of(p, i), p.row, p.q);
 }
 
@@ -126,10 +135,11 @@ fn send_front(p: Parameters, i: usize, tables: &[u32], x: &mut [u32], n: usize)
     ntt_by_row::forward(x, tables, n, rows_of(p, i), p.row, p.q);
 }
 
-// Sends the first `n` numbers of `x` with root number i of a set.
+// Sends the first `n` numbers of `x` with root number i of a set or with its inverse, whichever the tables are of.
 pub fn send_first(p: Parameters, i: usize, tables: &[u32], x: &mut [u32], n: usize)
-    requires { Listed p × RootTables p i tables.now × Placed p i n x.old }
-    ensures { x.new ≡ sent p i (take n x.old) }
+    requires { Listed p × SetLent p i tables.now × Placed p i n x.old }
+    ensures root { RootTables p i tables.now → x.new ≡ sent p i (take n x.old) }
+    ensures inverse { InverseTables p i tables.now → x.new ≡ sent_inverse p i (take n x.old) }
 {
     send_front(p, i, tables, x, n);
 }
@@ -143,14 +153,6 @@ pub fn send_first_scaled(p: Parameters, i: usize, tables: &[u32], x: &mut [u32],
     send_first(p, i, tables, x, n);
 }
 
-// Sends the first `n` numbers of `x` with the inverse of the root.
-pub fn send_first_inverse(p: Parameters, i: usize, tables: &[u32], x: &mut [u32], n: usize)
-    requires { Listed p × InverseTables p i tables.now × Placed p i n x.old }
-    ensures { x.new ≡ sent_inverse p i (take n x.old) }
-{
-    send_front(p, i, tables, x, n);
-}
-
 // Recovers the first `m` numbers of a stored vector with the root whose tables are lent, scaled by `e`.
 fn recover_front(p: Parameters, i: usize, tables: &[u32], x: &mut [u32], e: u32, m: usize)
     requires { Rules p × SetLent p i tables.now × Placed p i (transform_size_of p i) x.old × (e < p.q) × (m ≤ transform_size_of p i) }
@@ -158,15 +160,6 @@ fn recover_front(p: Parameters, i: usize, tables: &[u32], x: &mut [u32], e: u32,
         → take m x.new ≡ recover p.q p.row (row_count p i) w e m x.old }
 {
     ntt_by_row::inverse(x, tables, e, m, rows_of(p, i), p.row, p.q);
-}
-
-// Recovers the first `m` numbers of a vector that is stored with the inverse of root number i of a set.
-pub fn recover_first_inverse(p: Parameters, i: usize, tables: &[u32], x: &mut [u32], m: usize)
-    requires { Listed p × RootTables p i tables.now × Placed p i (transform_size_of p i) x.old
-        × (m ≤ transform_size_of p i) }
-    ensures { take m x.new ≡ recovered_inverse p i m x.old }
-{
-    recover_front(p, i, tables, x, size_inverse_of(p, i), m);
 }
 
 // The rows of a vector that is stored with the inverse of root number i of a set, on the way back: the sums of the columns recover its first row.
@@ -183,11 +176,12 @@ pub fn recover_rows(p: Parameters, i: usize, tables: &[u32], x: &mut [u32])
     );
 }
 
-// Recovers the first `m` numbers of a vector that is stored with root number i of a set.
+// Recovers the first `m` numbers of a vector that is stored with root number i of a set or with its inverse: the tables are of the other of the two.
 pub fn recover_first(p: Parameters, i: usize, tables: &[u32], x: &mut [u32], m: usize)
-    requires { Listed p × InverseTables p i tables.now × Placed p i (transform_size_of p i) x.old
+    requires { Listed p × SetLent p i tables.now × Placed p i (transform_size_of p i) x.old
         × (m ≤ transform_size_of p i) }
-    ensures { take m x.new ≡ recovered p i m x.old }
+    ensures root { InverseTables p i tables.now → take m x.new ≡ recovered p i m x.old }
+    ensures inverse { RootTables p i tables.now → take m x.new ≡ recovered_inverse p i m x.old }
 {
     recover_front(p, i, tables, x, size_inverse_of(p, i), m);
 }

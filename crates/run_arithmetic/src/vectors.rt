@@ -5,6 +5,7 @@ ghost use Rattle.std.specs.Prelude.{◌≡◌, true, ◌+◌, ◌≤◌, length}
 ghost use Rattle.sets.specs.Table.{Listed};
 ghost use Rattle.ntt_products.specs.Placed.{Placed, table_length_of};
 
+use ntt_products::WhichRoot;
 use report::script::Line;
 use sets::Parameters;
 use std::io;
@@ -59,23 +60,14 @@ fn transform_first(
         Transform::Recover | Transform::RecoverInverse => x.len(),
     };
     if ready(p, i, n, tables, x) {
+        let which = match transform {
+            Transform::Send | Transform::RecoverInverse => WhichRoot::Own,
+            Transform::SendInverse | Transform::Recover => WhichRoot::Inverse,
+        };
+        ntt_products::load_tables(p, i, which, tables);
         match transform {
-            Transform::Send => {
-                ntt_products::load_tables(p, i, tables);
-                ntt_products::send_first(p, i, tables, x, n);
-            }
-            Transform::SendInverse => {
-                ntt_products::load_inverse_tables(p, i, tables);
-                ntt_products::send_first_inverse(p, i, tables, x, n);
-            }
-            Transform::Recover => {
-                ntt_products::load_inverse_tables(p, i, tables);
-                ntt_products::recover_first(p, i, tables, x, n);
-            }
-            Transform::RecoverInverse => {
-                ntt_products::load_tables(p, i, tables);
-                ntt_products::recover_first_inverse(p, i, tables, x, n);
-            }
+            Transform::Send | Transform::SendInverse => ntt_products::send_first(p, i, tables, x, n),
+            Transform::Recover | Transform::RecoverInverse => ntt_products::recover_first(p, i, tables, x, n),
         }
         print!(rt; " {}", report::checksum(x))?;
     }
@@ -108,7 +100,7 @@ fn correlate(
     let size = stored.len();
     if 0 < n && ready(p, i, n, tables, x) && ready(p, i, size, tables, stored) {
         let m = settled(size, n);
-        ntt_products::load_tables(p, i, tables);
+        ntt_products::load_tables(p, i, WhichRoot::Own, tables);
         ntt_products::correlate(p, i, tables, x, n, stored, m);
         print!(rt; " {}", report::checksum(report::front(x, m)))?;
     }

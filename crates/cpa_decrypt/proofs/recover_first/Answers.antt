@@ -47,7 +47,7 @@ pub recover_first-requires : goal.recover_first-requires
 recover_first-requires c =
     let known = c.requires.1 in (
       known,
-      c.load_inverse_tables.ensures,
+      c.load_tables.ensures.lent,
       rw (made (goal.at.recover_first-requires c).After-reduce_all) (reduced_placed (p (goal.at.recover_first-requires c).After-reduce_all) known 2
           (numbers (goal.at.recover_first-requires c).After-reduce_all) (unpack_length _ _ _)),
       rw c.first_count.ensures (few (p (goal.at.recover_first-requires c).After-reduce_all) known),
@@ -57,7 +57,7 @@ pub returns : goal.returns
 returns c =
     let known = c.requires.1 in
     let n = (p (goal.at.returns c).After-reduce_all).n + (p (goal.at.returns c).After-reduce_all).k in
-    (rw c.first_count.ensures at c.recover_first.ensures)
+    (rw c.first_count.ensures at (c.recover_first.ensures.root c.load_tables.ensures))
     ∙ ap (recovered (p (goal.at.returns c).After-reduce_all) 2 n) (made (goal.at.returns c).After-reduce_all)
     ∙ recovered_reduced (p (goal.at.returns c).After-reduce_all) known 2 n (numbers (goal.at.returns c).After-reduce_all)
     (few (p (goal.at.returns c).After-reduce_all) known)

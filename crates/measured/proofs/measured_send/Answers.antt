@@ -5,7 +5,7 @@ use Rattle.measured.proofs.measured_send.Goals as goal
 
 pub send_first-requires : goal.send_first-requires
 send_first-requires c =
-    rw c.parameters_of.ensures (listed_set c.args.set c.requires.0, c.requires.1, c.requires.2)
+    rw c.parameters_of.ensures (listed_set c.args.set c.requires.0, c.requires.1.lent, c.requires.2)
 
 pub returns : goal.returns
-returns c = rw (← c.parameters_of.ensures) c.send_first.ensures
+returns c = rw (← c.parameters_of.ensures) (c.send_first.ensures.root (rw c.parameters_of.ensures c.requires.1))

@@ -7,17 +7,17 @@ use Rattle.calls.proofs.Parts.{front}
 use Rattle.ntt_products.proofs.Front.{front_placed}
 use Rattle.ntt_middle.proofs.store.Goals as goal
 
-pub send_first_inverse-requires : goal.send_first_inverse-requires
-send_first_inverse-requires c =
+pub send_first-requires : goal.send_first-requires
+send_first-requires c =
     let pre = c.requires in (
       pre.0,
-      c.load_inverse_tables.ensures,
+      c.load_tables.ensures.lent,
       rw c.copy_in.ensures
           (front_placed c.args.p 3 c.args.work.now c.args.b.now pre.2 pre.3 pre.4),
     )
 
 pub returns : goal.returns
 returns c =
-    c.send_first_inverse.ensures
+    c.send_first.ensures.inverse c.load_tables.ensures
     ∙ rw c.copy_in.ensures
     (ap (sent_inverse c.args.p 3) (front c.args.work.now c.args.b.now (omega (arith, c.requires.2, c.requires.3))))

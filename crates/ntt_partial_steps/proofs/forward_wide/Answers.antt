@@ -30,9 +30,9 @@ load_tables-requires c =
 pub send_first-requires : goal.send_first-requires
 send_first-requires c =
     let placed = wide_placed c.requires.1 c.args.out.now c.requires.2 in
-    (c.requires.0, c.load_tables.ensures, rw (copied (goal.at.send_first-requires c).After-copy_in) placed)
+    (c.requires.0, c.load_tables.ensures.lent, rw (copied (goal.at.send_first-requires c).After-copy_in) placed)
 
 pub returns : goal.returns
 returns c =
-    c.send_first.ensures
+    c.send_first.ensures.root c.load_tables.ensures
     ∙ ap (sent c.args.p c.args.i) (rw (copied (goal.at.returns c).After-copy_in) (wide_copied c.requires.1 c.args.out.now c.requires.2))

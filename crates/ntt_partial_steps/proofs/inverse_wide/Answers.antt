@@ -25,15 +25,15 @@ pub copy_from_slice-requires : goal.copy_from_slice-requires
 copy_from_slice-requires c =
     array_front 3328 (length c.args.input.now) (omega (arith, c.requires.1.places, size_most c.args.p (listed_rules _ c.requires.0) c.args.i))
 
-pub load_inverse_tables-requires : goal.load_inverse_tables-requires
-load_inverse_tables-requires c =
+pub load_tables-requires : goal.load_tables-requires
+load_tables-requires c =
     let room = c.table_length-length in
     (c.requires.0, array_front 3605 room.result (omega (arith, room.ensures, table_most c.args.p c.requires.0 c.args.i)) ∙ room.ensures)
 
 pub recover_first-requires : goal.recover_first-requires
 recover_first-requires c =
     let wide = c.requires.1 in
-    (c.requires.0, c.load_inverse_tables.ensures, rw c.copy_from_slice.ensures.after (wide_whole wide), rw (← wide.places) wide.within)
+    (c.requires.0, c.load_tables.ensures.lent, rw c.copy_from_slice.ensures.after (wide_whole wide), rw (← wide.places) wide.within)
 
 -- the first rows of what is recovered
 first_rows : (c : After-recover_first)
@@ -41,7 +41,7 @@ first_rows : (c : After-recover_first)
     c.args.input.now
 first_rows c =
     let end : c.args.m * 256 - 0 ≡ c.args.m * 256 = omega arith in
-    rw end (c.recover_first.ensures ∙ ap (recovered c.args.p c.args.i (c.args.m * 256)) c.copy_from_slice.ensures.after)
+    rw end (c.recover_first.ensures.root c.load_tables.ensures ∙ ap (recovered c.args.p c.args.i (c.args.m * 256)) c.copy_from_slice.ensures.after)
 
 pub copy_from_slice-requires-2 : goal.copy_from_slice-requires-2
 copy_from_slice-requires-2 c =

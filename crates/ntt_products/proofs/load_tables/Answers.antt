@@ -4,9 +4,10 @@ use mathlib.Core.Path.{◌≡◌, sym, ap, ◌∙◌}
 use native.Mathlib.Omega.{arith}
 use native.Mathlib.Nat.{sub-zero}
 use lib.ListN.{length, length-take}
+use Rattle.maths.proofs.PowerTable.{power_table_length}
 use Rattle.sets.specs.Derived.{transform_size_of}
 use Rattle.sets.proofs.Rules.{listed_rules}
-use Rattle.ntt_products.proofs.Sizes.{size_rows, sizes, front_length, front_region, root_powers_length, root_ordered, root_below}
+use Rattle.ntt_products.proofs.Sizes.{size_rows, sizes, front_length, front_region, powers_ordered, table_below, tables_of}
 use Rattle.ntt_products.proofs.load_tables.Goals.{After-load_powers, After-transform_size-size}
 use Rattle.ntt_products.proofs.load_tables.Goals as goal
 
@@ -16,7 +17,7 @@ size_is c = c.transform_size-size.ensures
 
 -- so many powers are loaded
 long : (c : After-load_powers) → length c.load_powers.new.out ≡ transform_size_of c.args.p c.args.i
-long c = ap length c.load_powers.ensures ∙ root_powers_length c.args.p c.args.i
+long c = ap length c.load_powers.ensures ∙ power_table_length _ _ _
 
 pub slice_bounds-load_powers-end : goal.slice_bounds-load_powers-end
 slice_bounds-load_powers-end c = omega (arith, size_is c, c.requires.1)
@@ -39,7 +40,7 @@ fill_tables-requires c =
           (front_length c.load_powers.new.out c.args.out.now c.transform_size-size.result (long (goal.at.fill_tables-requires c).After-load_powers ∙ sym
           (size_is (goal.at.fill_tables-requires c).After-transform_size-size))
           c.requires.1 (omega (arith, size_is (goal.at.fill_tables-requires c).After-transform_size-size))),
-      root_below p c.requires.0 i (front_region _ _ _ (long (goal.at.fill_tables-requires c).After-load_powers) ∙ c.load_powers.ensures),
+      table_below p c.requires.0 i _ (front_region _ _ _ (long (goal.at.fill_tables-requires c).After-load_powers) ∙ c.load_powers.ensures),
     )
 
 pub returns : goal.returns
@@ -47,7 +48,4 @@ returns c =
     let p = c.args.p in
     let i = c.args.i in
     let made = rw c.rows_of.ensures at c.fill_tables.ensures in
-    record {
-      lent = made.lent;
-      root = made.tables _ (root_ordered p c.requires.0 i (front_region _ _ _ (long (goal.at.returns c).After-load_powers) ∙ c.load_powers.ensures));
-    }
+    tables_of c.args.which p i made.lent (made.tables _ (powers_ordered p c.requires.0 i c.args.which (front_region _ _ _ (long (goal.at.returns c).After-load_powers) ∙ c.load_powers.ensures)))

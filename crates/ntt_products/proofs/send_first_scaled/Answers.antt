@@ -14,7 +14,7 @@ scale_first-requires c =
 pub send_first-requires : goal.send_first-requires
 send_first-requires c = (
   c.requires.0,
-  c.requires.1,
+  c.requires.1.lent,
   rw c.scale_first.ensures
       (scaled_placed c.args.p c.requires.0 c.args.i c.args.n c.args.x.now c.requires.2),
 )
@@ -22,4 +22,4 @@ send_first-requires c = (
 pub returns : goal.returns
 returns c =
     sent_scaled c.args.p c.requires.0 c.args.i c.args.n c.args.x.now c.requires.2 _
-    (rw c.scale_first.ensures at c.send_first.ensures)
+    (rw c.scale_first.ensures at (c.send_first.ensures.root c.requires.1))

@@ -50,7 +50,7 @@ drawn c =
 pub send_first-requires : goal.send_first-requires
 send_first-requires c =
     let placed = drawn_placed c.args.p c.requires.1 (state (goal.at.send_first-requires c).Start) c.args.y.now _ c.requires.5 in
-    (c.requires.1, c.requires.2, placed (drawn (goal.at.send_first-requires c).In_ok-next))
+    (c.requires.1, c.requires.2.lent, placed (drawn (goal.at.send_first-requires c).In_ok-next))
 
 -- the answer of the draw is that of n numbers
 whole : (c : Start) → let p = c.args.p in
@@ -72,5 +72,5 @@ returns c =
     record {
       answer = c.in_ok-next.ensures.answer ∙ whole (goal.at.returns c).Start;
       result = drawn_sent c.args.p c.requires.1 (state (goal.at.returns c).Start)
-          c.args.y.now _ c.requires.5 (drawn (goal.at.returns c).In_ok-next) _ c.send_first.ensures;
+          c.args.y.now _ c.requires.5 (drawn (goal.at.returns c).In_ok-next) _ (c.send_first.ensures.root c.requires.2);
     }

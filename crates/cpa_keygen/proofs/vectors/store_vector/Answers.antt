@@ -49,8 +49,8 @@ pub offset_bounds-work-start : goal.offset_bounds-work-start
 offset_bounds-work-start c =
     omega (arith, c.vector_start-start.ensures, vector_short c.args.p c.requires.0 c.requires.1 c.args.i c.requires.2)
 
-pub slice_bounds-send_first_inverse-end : goal.slice_bounds-send_first_inverse-end
-slice_bounds-send_first_inverse-end c =
+pub slice_bounds-send_first-end : goal.slice_bounds-send_first-end
+slice_bounds-send_first-end c =
     let p = c.args.p in
     omega (
       arith,
@@ -62,14 +62,14 @@ slice_bounds-send_first_inverse-end c =
       vector_room p c.requires.0 c.requires.1 c.args.i c.requires.2,
     )
 
-pub send_first_inverse-requires : goal.send_first_inverse-requires
-send_first_inverse-requires c =
+pub send_first-requires : goal.send_first-requires
+send_first-requires c =
     let p = c.args.p in
     let pre = c.requires in
     let room : c.vector_start-start.result + p.d1 ≤ length c.args.work.now =
     omega (arith, c.vector_start-start.ensures, pre.6, vector_room p pre.0 pre.1 c.args.i pre.2) in (
       pre.1,
-      pre.3,
+      pre.3.lent,
       copied_placed p pre.1 c.args.x.now c.args.work.now c.copy_in.new.work c.vector_start-start.result
           c.transform_size-size.result c.vector_length-n.result (c.transform_size-size.ensures ∙ first_size p)
           c.vector_length-n.ensures room pre.4 pre.5 c.copy_in.ensures,
@@ -83,5 +83,5 @@ returns c =
     omega (arith, c.vector_start-start.ensures, pre.6, vector_room p pre.0 pre.1 c.args.i pre.2) in
     copied_stored p pre.1 c.args.x.now c.args.work.now c.copy_in.new.work c.vector_start-start.result
     c.transform_size-size.result c.vector_length-n.result (c.transform_size-size.ensures ∙ first_size p)
-    c.vector_length-n.ensures room pre.4 pre.5 c.copy_in.ensures _ c.send_first_inverse.ensures
+    c.vector_length-n.ensures room pre.4 pre.5 c.copy_in.ensures _ (c.send_first.ensures.inverse pre.3)
     ∙ rw c.vector_start-start.ensures
