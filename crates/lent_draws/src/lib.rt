@@ -31,7 +31,10 @@ pub fn residues(set: usize, bytes: &[u8], out: &mut [u32]) -> Answer
     let wanted = out.len();
     check_shape(set, wanted)?;
     let p = sets::parameters_of(set);
-    draws::uniform::look(bytes, p.q, p.zqrej, wanted)?;
+    // no `?`, since the edit residues_refused_at_place_0 changes what is handed on here
+    if let Err(refusal) = draws::uniform::look(bytes, p.q, p.zqrej, wanted) {
+        return Err(refusal);
+    }
     draws::uniform::fill(bytes, p.q, p.zqrej, out);
     Ok(())
 }

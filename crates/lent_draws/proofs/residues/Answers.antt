@@ -1,6 +1,6 @@
 -- `lent_draws::residues` meets its contract: what looking gives is the answer, and it is accepted where the results are written.
 -- Assumes nothing.
-use mathlib.Core.Path.{◌≡◌, sym, ap, ◌∙◌}
+use mathlib.Core.Path.{◌≡◌, refl, sym, ap, ◌∙◌}
 use lib.ListN.{length}
 use Rattle.calls.specs.Outcome.{outcome}
 use Rattle.draws.specs.Uniform.{numbers}
@@ -32,21 +32,21 @@ pub look-requires : goal.look-requires
 look-requires c =
     (modulus_some _ _ c.parameters_of-p.ensures (shape (goal.at.look-requires c).In_ok-check_shape).most, (shape (goal.at.look-requires c).In_ok-check_shape).few)
 
-pub returns-in_err-look : goal.returns-in_err-look
+pub returns-in-Err : goal.returns-in-Err
 unfolding residues_left
-returns-in_err-look c =
-    let whole = refused_both _ _ (handed_on _ c.from_residual-in_err-look.result c.from_residual-in_err-look.ensures.1)
-    (answer (goal.at.returns-in_err-look c).After-look ∙ ap outcome c.in_err-look.was) in record { answer = whole.0; result = whole.1 }
+returns-in-Err c =
+    let told = answer (goal.at.returns-in-Err c).After-look ∙ ap outcome c.in-Err.is in
+    let whole = refused_both _ _ refl told in record { answer = whole.0; result = whole.1 }
 
 pub fill-requires : goal.fill-requires
 fill-requires c = (
   modulus_some _ _ c.parameters_of-p.ensures (shape (goal.at.fill-requires c).In_ok-check_shape).most,
-  sym c.in_ok-look.ensures,
+  sym c.look.ensures ∙ ap outcome c.in_default.is,
 )
 
 pub returns : goal.returns
 unfolding residues_left
 returns c =
-    let whole = accepted_both _ (answer (goal.at.returns c).After-look ∙ ap outcome c.in_ok-look.was)
+    let whole = accepted_both _ (answer (goal.at.returns c).After-look ∙ ap outcome c.in_default.is)
     (c.fill.ensures ∙ ap numbers (residues_drawn_lem _ _ _ (shape (goal.at.returns c).In_ok-check_shape) _ c.parameters_of-p.ensures)) in
     record { answer = whole.0; result = whole.1 }
