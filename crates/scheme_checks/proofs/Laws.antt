@@ -1,6 +1,6 @@
 -- What a call answers and leaves that makes its checks, then its draws, then clears the work slice: the same for every call of both schemes.
 -- Assumes nothing.
-use mathlib.Core.Path.{◌≡◌, refl, sym, ◌∙◌}
+use mathlib.Core.Path.{◌≡◌, refl, sym}
 use mathlib.Core.List.{List}
 use Prim.Native.Nat.{ℕ}
 use lib.ListN.{length, replicate}

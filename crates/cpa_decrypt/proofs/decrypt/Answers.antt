@@ -21,7 +21,6 @@ use Rattle.cpa_decrypt.proofs.Bits.{opened_message}
 use Rattle.cpa_decrypt.proofs.Secret.{secret_taken, secret_refused, secret_placed}
 use Rattle.calls.proofs.Parts.{front_length, part_front, front_room}
 use Rattle.cpa_decrypt.proofs.Room.{secret_room}
-use borrow.Author.Rules.{rules}
 use Rattle.cpa_decrypt.proofs.decrypt.Goals.{After-residues_from}
 use Rattle.cpa_decrypt.proofs.decrypt.Goals as goal
 

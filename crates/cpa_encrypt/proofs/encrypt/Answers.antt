@@ -3,7 +3,6 @@
 use mathlib.Core.Path.{sym, subst, ◌∙◌}
 use Prim.Native.Nat.{ℕ, ◌+◌, ◌*◌, ◌≤◌}
 use native.Mathlib.Omega.{arith}
-use borrow.Author.Tests.{not-false}
 use lib.ListN.{length}
 use Rattle.calls.proofs.Outcome.{refused_call}
 use Rattle.cpa_encrypt.specs.Parts.{KeyResidues}

@@ -16,7 +16,6 @@ use Rattle.samplers.proofs.Laws.{errors_drawn_length}
 use Rattle.cpa_keygen.specs.Held.{vectors_start_of}
 use Rattle.cpa_keygen.proofs.Room.{vectors_room, secret_room}
 use Rattle.calls.proofs.Parts.{part_length}
-use borrow.Author.Rules.{rules}
 use Rattle.cpa_keygen.proofs.draw_errors.Goals.{After-vectors_start-end}
 use Rattle.cpa_keygen.proofs.draw_errors.Goals as goal
 

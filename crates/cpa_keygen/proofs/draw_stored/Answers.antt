@@ -13,7 +13,6 @@ use Rattle.cpa_keygen.proofs.Room.{vectors_room, secret_room}
 use Rattle.calls.proofs.Parts.{front_length}
 use Rattle.scheme.proofs.Taken.{taken_numbers}
 use Rattle.cpa_keygen.proofs.Drawn.{secret_answer, secret_draw_lem}
-use borrow.Author.Rules.{rules}
 use Rattle.cpa_keygen.proofs.draw_stored.Goals.{Start}
 use Rattle.cpa_keygen.proofs.draw_stored.Goals as goal
 

@@ -2,7 +2,6 @@
 -- Assumes nothing.
 use mathlib.Core.Path.{sym, ◌∙◌}
 use borrow.Author.Rules.{rules}
-use borrow.Author.Tests.{not-false}
 use Rattle.calls.proofs.Outcome.{refused_call}
 use Rattle.scheme.proofs.Answers.{reading_refused, reading_passed}
 use Rattle.encryption.proofs.decrypt_if_below.Goals as goal

@@ -1,6 +1,6 @@
 -- `cca_steps::encapsulation::encapsulate_digest` meets its contract: the check bytes follow what was encrypted, and nothing is written where that is refused.
 -- Assumes nothing.
-use mathlib.Core.Path.{◌≡◌, sym, ap, ◌∙◌}
+use mathlib.Core.Path.{◌≡◌, sym, ◌∙◌}
 use Prim.Native.Nat.{◌+◌, ◌-◌}
 use native.Mathlib.Omega.{arith}
 use borrow.Author.Rules.{rules}

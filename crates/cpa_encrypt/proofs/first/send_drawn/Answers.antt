@@ -1,17 +1,16 @@
 -- The numbers are drawn into the first n places; where they are all there, they are sent.
 -- Assumes nothing.
-use mathlib.Core.Path.{◌≡◌, sym, ap, ◌∙◌}
+use mathlib.Core.Path.{◌≡◌, sym, ◌∙◌}
 use Prim.Native.Nat.{◌-◌}
 use native.Mathlib.Omega.{arith}
 use lib.ListN.{length, take, drop}
 use Rattle.std.proofs.lemmas.Result.{err_from_is_err_and}
 use Rattle.draws.specs.Uniform.{taken}
 use Rattle.byte_source.specs.Source.{State, state_at}
-use Rattle.samplers.specs.Blocks.{uniform, uniform_answer, onward}
+use Rattle.samplers.specs.Blocks.{uniform, uniform_answer}
 use Rattle.calls.proofs.Parts.{front_length}
 use Rattle.sets.proofs.Rules.{listed_rules}
 use Rattle.cpa_encrypt.proofs.Adding.{polynomial_fits, answer_whole, drawn_numbers, drawn_refused, drawn_placed, drawn_sent}
-use borrow.Author.Rules.{rules}
 use Rattle.cpa_encrypt.proofs.first.send_drawn.Goals.{In_ok-next, Start}
 use Rattle.cpa_encrypt.proofs.first.send_drawn.Goals as goal
 

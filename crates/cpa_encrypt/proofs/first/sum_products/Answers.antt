@@ -1,7 +1,7 @@
 -- After i turns the products of the first i polynomials are added up.
 -- Assumes nothing.
-use mathlib.Core.Path.{refl, sym, ap, ◌∙◌}
-use Prim.Native.Nat.{ℕ, ◌-◌, ◌<◌}
+use mathlib.Core.Path.{sym, ◌∙◌}
+use Prim.Native.Nat.{◌<◌}
 use native.Mathlib.Omega.{arith}
 use Rattle.calls.proofs.Outcome.{accepted_refused, handed_as}
 use Rattle.byte_source.specs.Source.{state_at}

@@ -1,10 +1,9 @@
 -- After i turns the first i vectors are stored; the first draw that is refused ends the loop.
 -- Assumes nothing.
-use mathlib.Core.Path.{◌≡◌, refl, sym, ap, ◌∙◌}
-use Prim.Native.Nat.{◌-◌, ◌<◌}
+use mathlib.Core.Path.{◌≡◌, refl, sym, ◌∙◌}
+use Prim.Native.Nat.{◌<◌}
 use native.Mathlib.Omega.{arith}
 use Rattle.calls.specs.Outcome.{accepted}
-use Rattle.sets.proofs.Rules.{listed_rules}
 use Rattle.calls.proofs.Outcome.{handed_as}
 use Rattle.samplers.specs.Seeded.{public_drawn}
 use Rattle.scheme.proofs.Taken.{all_taken_false}

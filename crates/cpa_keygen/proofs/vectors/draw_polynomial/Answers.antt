@@ -14,7 +14,6 @@ use Rattle.sets.proofs.Transforms.{third_size}
 use Rattle.calls.proofs.Parts.{front_length}
 use Rattle.scheme.proofs.Taken.{taken_numbers}
 use Rattle.cpa_keygen.proofs.Drawn.{public_answer, public_draw}
-use borrow.Author.Rules.{rules}
 use Rattle.cpa_keygen.proofs.vectors.draw_polynomial.Goals.{Start}
 use Rattle.cpa_keygen.proofs.vectors.draw_polynomial.Goals as goal
 

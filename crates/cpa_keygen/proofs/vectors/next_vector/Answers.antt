@@ -1,10 +1,9 @@
 -- A polynomial that is drawn gives the vector; a refused draw gives none.
 -- Assumes nothing.
-use mathlib.Core.Path.{sym, ap, ◌∙◌}
+use mathlib.Core.Path.{ap, ◌∙◌}
 use Prim.Native.Nat.{◌+◌, ◌*◌}
 use Rattle.std.proofs.lemmas.Result.{err_from_is_err_and}
 use Rattle.calls.specs.Region.{over}
-use Rattle.samplers.specs.Blocks.{onward}
 use Rattle.samplers.specs.Seeded.{public_drawn}
 use Rattle.cpa_keygen.specs.Held.{vectors_start_of}
 use Rattle.cpa_keygen.proofs.Drawn.{true_false, advanced, stopped, public_never_ends}
