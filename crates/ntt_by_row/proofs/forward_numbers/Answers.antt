@@ -12,7 +12,7 @@ use Rattle.ntt_by_row.proofs.forward_numbers.Goals.{After-copy_in}
 use Rattle.ntt_by_row.proofs.forward_numbers.Goals as goal
 
 -- the numbers that were copied
-buffer_front : (c : After-copy_in) → let args = c.args in take (args.n - 0) c.copy_in.new.work ≡ take args.n args.x.now
+buffer_front : (c : After-copy_in) → let args = c.args in take (args.n - 0) c.copy_in.new.dst ≡ take args.n args.x.now
 buffer_front c =
     let whole : c.args.n - 0 ≡ c.args.n = omega arith in
     let size : length (take c.args.n c.args.x.now) ≡ c.args.n = length-take-le c.args.n c.args.x.now c.requires.3 in

@@ -11,7 +11,7 @@ use Rattle.ntt_by_row.proofs.inverse_numbers.Goals.{After-copy_in}
 use Rattle.ntt_by_row.proofs.inverse_numbers.Goals as goal
 
 -- the numbers that were copied
-buffer_front : (c : After-copy_in) → let args = c.args in take (length args.x.now - 0) c.copy_in.new.work ≡ args.x.now
+buffer_front : (c : After-copy_in) → let args = c.args in take (length args.x.now - 0) c.copy_in.new.dst ≡ args.x.now
 buffer_front c =
     let whole : length c.args.x.now - 0 ≡ length c.args.x.now = omega arith in
     rw whole (copied _ _ (length c.args.x.now) c.copy_in.ensures refl (omega (arith, c.requires)))

@@ -14,7 +14,7 @@ use Rattle.ntt_partial_steps.proofs.forward_wide.Goals as goal
 
 -- the rows that were copied
 copied : (c : After-copy_in)
-    → c.copy_in.new.work ≡ over c.args.out.now 0 (take (c.args.m * 256) c.args.input.now)
+    → c.copy_in.new.dst ≡ over c.args.out.now 0 (take (c.args.m * 256) c.args.input.now)
 copied c =
     let end : c.args.m * 256 - 0 ≡ c.args.m * 256 = omega arith in
     rw end at c.copy_in.ensures

@@ -57,7 +57,7 @@ slice_bounds-send_first-end c =
       c.vector_start-start.ensures,
       c.transform_size-size.ensures,
       first_size p,
-      c.copy_in.auto.work,
+      c.copy_in.auto.dst,
       c.requires.6,
       vector_room p c.requires.0 c.requires.1 c.args.i c.requires.2,
     )
@@ -70,7 +70,7 @@ send_first-requires c =
     omega (arith, c.vector_start-start.ensures, pre.6, vector_room p pre.0 pre.1 c.args.i pre.2) in (
       pre.1,
       pre.3.lent,
-      copied_placed p pre.1 c.args.x.now c.args.work.now c.copy_in.new.work c.vector_start-start.result
+      copied_placed p pre.1 c.args.x.now c.args.work.now c.copy_in.new.dst c.vector_start-start.result
           c.transform_size-size.result c.vector_length-n.result (c.transform_size-size.ensures ∙ first_size p)
           c.vector_length-n.ensures room pre.4 pre.5 c.copy_in.ensures,
     )
@@ -81,7 +81,7 @@ returns c =
     let pre = c.requires in
     let room : c.vector_start-start.result + p.d1 ≤ length c.args.work.now =
     omega (arith, c.vector_start-start.ensures, pre.6, vector_room p pre.0 pre.1 c.args.i pre.2) in
-    copied_stored p pre.1 c.args.x.now c.args.work.now c.copy_in.new.work c.vector_start-start.result
+    copied_stored p pre.1 c.args.x.now c.args.work.now c.copy_in.new.dst c.vector_start-start.result
     c.transform_size-size.result c.vector_length-n.result (c.transform_size-size.ensures ∙ first_size p)
     c.vector_length-n.ensures room pre.4 pre.5 c.copy_in.ensures _ (c.send_first.ensures.inverse pre.3)
     ∙ rw c.vector_start-start.ensures
