@@ -66,8 +66,12 @@ fn transform_first(
         };
         ntt_products::load_tables(p, i, which, tables);
         match transform {
-            Transform::Send | Transform::SendInverse => ntt_products::send_first(p, i, tables, x, n),
-            Transform::Recover | Transform::RecoverInverse => ntt_products::recover_first(p, i, tables, x, n),
+            Transform::Send | Transform::SendInverse => ntt_products::send_first(
+                p, i, tables, x, n,
+            ),
+            Transform::Recover | Transform::RecoverInverse => ntt_products::recover_first(
+                p, i, tables, x, n,
+            ),
         }
         print!(rt; " {}", report::checksum(x))?;
     }

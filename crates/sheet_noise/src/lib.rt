@@ -50,13 +50,7 @@ fn draw_errors(p: Parameters, secret: &[u8], work: &mut [u32])
 {
     let size = p.d3;
     let count = sets::derived::error_count(p);
-    let Ok(counter) = samplers::residues_from(
-        p,
-        secret,
-        p.bytpcs,
-        0,
-        &mut work[0..size],
-    ) else {
+    let Ok(counter) = samplers::residues_from(p, secret, p.bytpcs, 0, &mut work[0..size]) else {
         return;
     };
     samplers::errors_from(p, secret, counter, &mut work[0..count]);
