@@ -5,16 +5,14 @@ use Rattle.maths.specs.Vector as vectors
 use Rattle.maths.specs.Vector.{at, tabulate, AllBelow}
 use Rattle.maths.specs.Sum as sums
 use Rattle.montgomery.specs.Scaled as scaled
-use Rattle.montgomery.specs.Scaled.{Modulus}
 use Rattle.packing.specs.Digits as packed
 use Rattle.packing.specs.Message as messages
 use Rattle.packing.specs.Message.{message_bits_of}
 use Rattle.ntt.specs.Rows as row_sums
 use Rattle.ntt.specs.Rows.{first_row_at}
 
--- what the walk asks: a modulus, the scale of the inverse transform and half the modulus as residues, δ rows of 256 numbers, and d places for c2
-pub record WalkReady (q k by half δ : ℕ) (rows : List ℕ) (d : ℕ) : Type 0 where
-  pub modulus : Modulus q k
+-- what the walk asks beside a modulus: the scale of the inverse transform and half the modulus as residues, δ rows of 256 numbers, and d places for c2
+pub record WalkReady (q by half δ : ℕ) (rows : List ℕ) (d : ℕ) : Type 0 where
   pub by_below : by < q
   pub half_below : half < q
   pub few_rows : δ ≤ 16

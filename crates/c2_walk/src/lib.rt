@@ -6,6 +6,8 @@ ghost use Rattle.std.specs.Prelude.{◌≡◌, List, ℕ, ◌+◌, ◌<◌, leng
 ghost use Rattle.c2_place.specs.Walk.{Walked};
 ghost use Rattle.c2_walk.specs.Finished.{WalkReady, finished};
 
+use montgomery::Reducer;
+
 // Finishes place `j` of c2: the sum of column `j`, and `half` times the message bit.
 fn finish_place(
     c2: &mut [u32],
@@ -15,17 +17,16 @@ fn finish_place(
     by: u32,
     half: u32,
     count: usize,
-    q: u32,
-    k: u32,
+    reducer: Reducer,
 )
-    requires { WalkReady q k by half count rows.now (length c2.old) × (j < length c2.old) }
+    requires { WalkReady reducer.q by half count rows.now (length c2.old) × (j < length c2.old) }
     ensures { (before : List ℕ)
-        → Walked (finished q by half count (length c2.old) rows.now message.now) before j c2.old
-        → Walked (finished q by half count (length c2.old) rows.now message.now) before (j + 1) c2.new }
+        → Walked (finished reducer.q by half count (length c2.old) rows.now message.now) before j c2.old
+        → Walked (finished reducer.q by half count (length c2.old) rows.now message.now) before (j + 1) c2.new }
 {
-    let sum = ntt::first_row_place(rows, j, by, count, q, k);
+    let sum = ntt::first_row_place(rows, j, by, count, reducer);
     let bit = bit_fields::bit_at(message, j);
-    c2_place::finish(c2, j, sum, bit, half, q);
+    c2_place::finish(c2, j, sum, bit, half, reducer.q);
 }
 
 // Writes c2 in one walk.
@@ -36,13 +37,12 @@ pub fn fill(
     by: u32,
     half: u32,
     count: usize,
-    q: u32,
-    k: u32,
+    reducer: Reducer,
 )
-    requires { WalkReady q k by half count rows.now (length c2.old) }
-    ensures { c2.new ≡ finished q by half count (length c2.old) rows.now message.now }
+    requires { WalkReady reducer.q by half count rows.now (length c2.old) }
+    ensures { c2.new ≡ finished reducer.q by half count (length c2.old) rows.now message.now }
 {
     for j in 0..c2.len() {
-        finish_place(c2, j, rows, message, by, half, count, q, k);
+        finish_place(c2, j, rows, message, by, half, count, reducer);
     }
 }

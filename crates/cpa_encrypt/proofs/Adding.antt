@@ -22,7 +22,6 @@ use Rattle.samplers.specs.Blocks.{uniform, onto, refusal, uniform_answer}
 use Rattle.byte_source.specs.Source.{State, state_at}
 use Rattle.samplers.specs.Seeded.{public_state, public_drawn}
 use Rattle.samplers.proofs.Laws.{uniform_length, uniform_below, answer_onto, answer_refusal, public_state_small}
-use Rattle.montgomery.specs.Scaled.{Modulus}
 use Rattle.ntt_products.specs.Stored.{sent, unscaled, accumulated, totals}
 use Rattle.ntt_products.specs.Placed.{Placed, SentScaled}
 use Rattle.ntt_products.proofs.Laws.{accumulated_length, Stored, sent_placed, addends, totals_none, totals_more, totals_placed, totals_sent, front_placed}
@@ -177,14 +176,14 @@ module _ (p : Parameters) (known : Listed p) (seed ms : List ℕ) where
       }
 
   -- the total and the vectors of one turn may be accumulated
-  pub adding_addends : {size k : ℕ} {total x₀ y₀ x y : List ℕ} {counter i : ℕ} → Modulus p.q k
+  pub adding_addends : {size : ℕ} {total x₀ y₀ x y : List ℕ} {counter i : ℕ}
       → Adding p seed ms size total x₀ y₀ counter i → SentScaled p 2 (vector (p.k + 1) ms i) x → y ≡ sent p 2 (public_polynomial p seed i)
-      → Modulus p.q k × (length x ≡ length total) × (length y ≡ length total) × AllBelow p.q (length total) total × AllBelow p.q (length total) x
-  adding_addends {total = total} {y = y} {i = i} modulus a scaled y_is =
+      → (length x ≡ length total) × (length y ≡ length total) × AllBelow p.q (length total) total × AllBelow p.q (length total) x
+  adding_addends {total = total} {y = y} {i = i} a scaled y_is =
       let stored : Stored p 2 total =
       rw a.sum (totals_placed p known 2 i (λ j. sent p 2 (vector (p.k + 1) ms j)) (λ j. sent p 2 (public_polynomial p seed j))) in
       let other : Stored p 2 y = rw y_is (sent_placed p known 2 (public_polynomial p seed i)) in
-      addends p known 2 modulus stored scaled.placed other
+      addends p known 2 stored scaled.placed other
 
   -- after the last polynomial
   pub adding_all : {size : ℕ} {total x y : List ℕ} {counter i : ℕ} → Adding p seed ms size total x y counter i → p.t ≤ i

@@ -23,7 +23,6 @@ use Rattle.sets.proofs.Rules.{listed_rules}
 use Rattle.packing.specs.Digits.{Digit}
 use Rattle.packing.specs.Dropped.{pack_dropping_of}
 use Rattle.packing.specs.Message.{message_bits_of}
-use Rattle.montgomery.specs.Scaled.{Modulus}
 use Rattle.ntt_products.specs.Stored.{sent, unscaled, recovered_inverse, accumulated, totals, summed_correlations}
 use Rattle.ntt_products.specs.Placed.{SentScaled}
 use Rattle.ntt_products.proofs.Laws.{accumulated_length, Stored, addends, totals_none, totals_more, totals_placed}
@@ -102,14 +101,14 @@ module _ (p : Parameters) (known : Listed p) where
         }
 
     -- the total and the vectors of one turn may be accumulated
-    pub correlating_addends : {size k : ℕ} {total x₀ x y : List ℕ} {i : ℕ} → Modulus p.q k → KeyResidues p numbers
+    pub correlating_addends : {size : ℕ} {total x₀ x y : List ℕ} {i : ℕ} → KeyResidues p numbers
         → Correlating p numbers ms size total x₀ i → i < p.t → SentScaled p 1 (vector (p.k + 1) ms i) x → y ≡ vector p.d1 numbers i
-        → Modulus p.q k × (length x ≡ length total) × (length y ≡ length total) × AllBelow p.q (length total) total × AllBelow p.q (length total) x
-    correlating_addends {total = total} {y = y} {i = i} modulus b a h scaled y_is =
+        → (length x ≡ length total) × (length y ≡ length total) × AllBelow p.q (length total) total × AllBelow p.q (length total) x
+    correlating_addends {total = total} {y = y} {i = i} b a h scaled y_is =
         let stored : Stored p 1 total =
         rw a.sum (totals_placed p known 1 i (λ j. sent p 1 (vector (p.k + 1) ms j)) (λ j. vector p.d1 numbers j)) in
         let other : Stored p 1 y = rw y_is (key_stored b i h) in
-        addends p known 1 modulus stored scaled.placed other
+        addends p known 1 stored scaled.placed other
 
     -- the total over all polynomials may be recovered
     pub total_stored : (total : List ℕ)

@@ -13,7 +13,6 @@ use Rattle.sets.specs.Table.{Listed}
 use Rattle.sets.specs.Rules.{ByteRules}
 use Rattle.sets.specs.Derived.{half_modulus_of, transform_size_of}
 use Rattle.sets.proofs.Rules.{listed_rules}
-use Rattle.montgomery.specs.Scaled.{Modulus}
 use Rattle.packing.specs.Message.{message_bits_of}
 use Rattle.ntt_products.specs.Stored.{row_count, row_scale, recovered_inverse}
 use Rattle.ntt_products.specs.Placed.{RowsRecovered}
@@ -29,13 +28,12 @@ scale_below p i some = mod-lt _ some
 module _ (p : Parameters) (bytes : ByteRules p) (known : Listed p) (by half count d : ℕ) (by-is : by ≡ row_scale p 1)
     (half_is : half ≡ half_modulus_of p) (count_is : count ≡ row_count p 1) (d-is : d ≡ p.d) (rows : List ℕ) where
   -- what the walk asks
-  pub walk_ready : {k : ℕ} → Modulus p.q k → length rows ≡ transform_size_of p 1
-      → AllBelow (2 * p.q) (transform_size_of p 1) rows → WalkReady p.q k by half count rows d
-  walk_ready modulus size below =
+  pub walk_ready : length rows ≡ transform_size_of p 1
+      → AllBelow (2 * p.q) (transform_size_of p 1) rows → WalkReady p.q by half count rows d
+  walk_ready size below =
       let kept = listed_rules p known in
       rw (by-is, half_is, count_is, d-is)
       (record {
-        modulus = modulus;
         by_below = scale_below p 1 (omega (arith, kept.prime.above));
         half_below = omega (arith, kept.odd);
         few_rows = (sizes p known 1).few_rows;

@@ -17,6 +17,7 @@ ghost use Rattle.scheme.specs.Encryption.{public_polynomial, first_bytes_of};
 ghost use Rattle.cpa_encrypt.specs.Parts.{Multipliers, packed_first};
 
 use calls::Answer;
+use montgomery::Reducer;
 use ntt_products::WhichRoot;
 use samplers::Advance;
 use sets::Parameters;
@@ -50,12 +51,12 @@ fn sum_products(
         → total.new ≡ totals p.q (transform_size_of p 2) p.t (λ i. sent p 2 (vector (p.k + 1) multipliers.now i))
         (λ i. sent p 2 (public_polynomial p seed.now i)) }
 {
-    let k = montgomery::negated_inverse(p.q);
+    let reducer = Reducer::new(p.q);
     let mut counter: u32 = 0;
     for i in 0..p.t {
         crate::vectors::send_multipliers(p, 2, tables, multipliers, i, x);
         counter = send_drawn(p, tables, seed, counter, y)?;
-        ntt_products::accumulate(total, x, y, p.q, k);
+        ntt_products::accumulate(total, x, y, reducer);
     }
     Ok(())
 }

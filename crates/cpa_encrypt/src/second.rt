@@ -11,6 +11,7 @@ ghost use Rattle.ntt_products.specs.Placed.{table_length_of, RootTables, RowsRec
 ghost use Rattle.scheme.specs.Encryption.{second_bytes};
 ghost use Rattle.cpa_encrypt.specs.Parts.{Multipliers, KeyResidues, message_added, second_sums, packed_second};
 
+use montgomery::Reducer;
 use ntt_products::WhichRoot;
 use sets::Parameters;
 
@@ -28,12 +29,12 @@ fn sum_stored(
     ensures { total.new ≡ totals p.q (transform_size_of p 1) p.t (λ i. sent p 1 (vector (p.k + 1) multipliers.now i))
         (λ i. vector p.d1 numbers.now i) }
 {
-    let k = montgomery::negated_inverse(p.q);
+    let reducer = Reducer::new(p.q);
     for i in 0..p.t {
         crate::vectors::send_multipliers(p, 1, tables, multipliers, i, x);
         let from = p.d1 * i;
         let end = from + p.d1;
-        ntt_products::accumulate(total, x, &numbers[from..end], p.q, k);
+        ntt_products::accumulate(total, x, &numbers[from..end], reducer);
     }
 }
 
@@ -67,8 +68,8 @@ fn walk(p: Parameters, rows: &[u32], message: &[u8], out: &mut [u32])
     let by = ntt_products::row_scale_of(p, 1);
     let half = sets::derived::half_modulus(p);
     let count = ntt_products::rows_of(p, 1);
-    let k = montgomery::negated_inverse(p.q);
-    c2_walk::fill(out, rows, message, by, half, count, p.q, k);
+    let reducer = Reducer::new(p.q);
+    c2_walk::fill(out, rows, message, by, half, count, reducer);
 }
 
 // c2 before it is packed, with room on the way in lent slices.

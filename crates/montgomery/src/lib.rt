@@ -4,6 +4,14 @@
 ghost use Rattle.std.specs.Prelude.{◌≡◌, ◌+◌, ◌*◌, ◌%◌, ◌^◌, ◌<◌};
 ghost use Rattle.montgomery.specs.Scaled.{unscale, newton_step_of, lazy, lazy_long, Odd, Modulus};
 
+// An odd modulus below 2^24, and its negated inverse modulo 2^32: what numbers are reduced by.
+#[derive(Clone, Copy)]
+pub struct Reducer {
+    pub q: u32,
+    pub k: u32,
+    pub ghost modulus: { Modulus q k },
+}
+
 // One step of Newton's method for the negated inverse of q.
 fn newton_step(q: u32, b: u32) -> u32
     ensures { result ≡ newton_step_of q b }
@@ -24,14 +32,27 @@ pub fn negated_inverse(q: u32) -> u32
     newton_step(q, sixteen_bits)
 }
 
-// The smallest reduction step, 003's algorithm 43: x divided by 2^32 modulo q, where `k` is the negated inverse of q, since x + m · q is a multiple of 2^32.
+impl Reducer {
+    // An odd modulus with its negated inverse.
+    pub fn new(q: u32) -> Self
+        requires { Odd q }
+        ensures { result.q ≡ q }
+    {
+        Reducer {
+            q,
+            k: negated_inverse(q),
+        }
+    }
+}
+
+// The smallest reduction step, 003's algorithm 43: x divided by 2^32 modulo q, since x + m · q is a multiple of 2^32.
 // What it gives is below 2 · q, and may be q or more. The remainder of q by 2^31, which is q, tells the compiler that one multiplication of 32 bits does.
-pub fn step(x: u64, q: u32, k: u32) -> u32
-    requires { Modulus q k × (x < q * 2 ^ 32) }
-    ensures { (result % q ≡ unscale q x) × (result < 2 * q) × (result ≡ lazy q x) }
+pub fn step(x: u64, reducer: Reducer) -> u32
+    requires { x < reducer.q * 2 ^ 32 }
+    ensures { (result % reducer.q ≡ unscale reducer.q x) × (result < 2 * reducer.q) × (result ≡ lazy reducer.q x) }
 {
-    let m = x % 4294967296 * (k as u64) % 4294967296;
-    ((x + m * ((q % 2147483648) as u64)) / 4294967296) as u32
+    let m = x % 4294967296 * (reducer.k as u64) % 4294967296;
+    ((x + m * ((reducer.q % 2147483648) as u64)) / 4294967296) as u32
 }
 
 // The whole product of a number and a residue.
@@ -43,20 +64,20 @@ pub fn whole_product(a: u32, w: u32) -> u64
 }
 
 // The product of any number of 32 bits and the number that the residue `w` is the scaled form of.
-pub fn product(a: u32, w: u32, q: u32, k: u32) -> u32
-    requires { Modulus q k × (w < q) }
-    ensures { (result % q ≡ a * unscale q w % q) × (result < 2 * q) × (result ≡ lazy q (a * w)) }
+pub fn product(a: u32, w: u32, reducer: Reducer) -> u32
+    requires { w < reducer.q }
+    ensures { (result % reducer.q ≡ a * unscale reducer.q w % reducer.q) × (result < 2 * reducer.q) × (result ≡ lazy reducer.q (a * w)) }
 {
-    step(whole_product(a, w), q, k)
+    step(whole_product(a, w), reducer)
 }
 
 // Any number of 64 bits divided by 2^32 modulo q, in two steps: a product with `s`, the remainder of 2^64, keeps the place of the upper 32 bits.
-pub fn long_step(x: u64, s: u32, q: u32, k: u32) -> u32
-    requires { Modulus q k × (s ≡ 2 ^ 64 % q) }
-    ensures { (result % q ≡ unscale q x) × (result < 2 * q) × (result ≡ lazy_long q x) }
+pub fn long_step(x: u64, s: u32, reducer: Reducer) -> u32
+    requires { s ≡ 2 ^ 64 % reducer.q }
+    ensures { (result % reducer.q ≡ unscale reducer.q x) × (result < 2 * reducer.q) × (result ≡ lazy_long reducer.q x) }
 {
-    let upper = product((x / 4294967296) as u32, s, q, k) as u64;
-    step(upper + x % 4294967296, q, k)
+    let upper = product((x / 4294967296) as u32, s, reducer) as u64;
+    step(upper + x % 4294967296, reducer)
 }
 
 // 1 in scaled form.

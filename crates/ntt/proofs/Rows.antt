@@ -22,16 +22,15 @@ use Rattle.ntt.proofs.Places.{same_row, row_end}
 part_below : {q n : ℕ} {xs : List ℕ} (start m : ℕ) → AllBelow q n xs → start + m ≤ n → AllBelow q m (region xs start m)
 part_below {xs = xs} start m below fits = record { each = λ i h. rw (region_entry xs start m i 0 h) (below.each (start + i) (omega arith)) }
 
-module _ {q k δ r : ℕ} {tables x : List ℕ} (ready : RowsReady q k δ tables x) (h : r < δ) where
+module _ {q δ r : ℕ} {tables x : List ℕ} (ready : RowsReady q δ tables x) (h : r < δ) where
   -- the places of a row
   pub row_inside : r * 256 + 256 ≤ δ * 256
   row_inside = row_end 256 h
 
   -- row r may be sent
-  pub forward_ready : {by : ℕ} → by < q → ForwardReady q k by (region tables (r * 256) 256) (region tables (δ * 256) 264) (region x (r * 256) 256)
+  pub forward_ready : {by : ℕ} → by < q → ForwardReady q by (region tables (r * 256) 256) (region tables (δ * 256) 264) (region x (r * 256) 256)
   forward_ready small =
       record {
-        modulus = ready.modulus;
         by_below = small;
         twist_size = region_length tables (r * 256) 256 (omega (arith, ready.ready.size, row_inside));
         twist_below = part_below (r * 256) 256 ready.ready.below (omega (arith, row_inside));
@@ -42,10 +41,9 @@ module _ {q k δ r : ℕ} {tables x : List ℕ} (ready : RowsReady q k δ tables
 
   -- row r may be recovered
   pub inverse_ready : AllBelow (2 * q) 256 (region x (r * 256) 256)
-      → InverseReady q k (region tables (r * 256) 256) (region tables (δ * 256) 264) (region x (r * 256) 256)
+      → InverseReady q (region tables (r * 256) 256) (region tables (δ * 256) 264) (region x (r * 256) 256)
   inverse_ready below =
       record {
-        modulus = ready.modulus;
         twist_size = region_length tables (r * 256) 256 (omega (arith, ready.ready.size, row_inside));
         twist_below = part_below (r * 256) 256 ready.ready.below (omega (arith, row_inside));
         tables_size = region_length tables (δ * 256) 264 (omega (arith, ready.ready.size));
@@ -96,13 +94,13 @@ module _ {P : ℕ → List ℕ → List ℕ → Type 0} {δ : ℕ} {old : List �
       }
 
 -- what the rows ask stays as they are written
-pub rows_ready : {q k δ : ℕ} {tables old new : List ℕ} → RowsReady q k δ tables old → length new ≡ length old → RowsReady q k δ tables new
-rows_ready ready kept = record { modulus = ready.modulus; ready = ready.ready; size = kept ∙ ready.size }
+pub rows_ready : {q δ : ℕ} {tables old new : List ℕ} → RowsReady q δ tables old → length new ≡ length old → RowsReady q δ tables new
+rows_ready ready kept = record { ready = ready.ready; size = kept ∙ ready.size }
 
 -- the next row is as it was, so that it has what it asks
-pub row_given : {q k δ r : ℕ} {tables old new : List ℕ} (direction : Direction) → RowsReady q k δ tables old → RowsGiven q δ direction old
+pub row_given : {q δ r : ℕ} {tables old new : List ℕ} (direction : Direction) → RowsReady q δ tables old → RowsGiven q δ direction old
     → RowsDone (RowAt q direction δ tables) δ old r new → r < δ
-    → RowGiven q k direction (region tables (r * 256) 256) (region tables (δ * 256) 264) (region new (r * 256) 256)
+    → RowGiven q direction (region tables (r * 256) 256) (region tables (δ * 256) 264) (region new (r * 256) 256)
 row_given (Forward by) ready given s h = forward_ready (rows_ready ready s.kept) h given
 row_given {r = r} Inverse ready given s h =
     inverse_ready (rows_ready ready s.kept) h (rw (s.rest r (omega arith) h) (part_below (r * 256) 256 given (row_end 256 h)))

@@ -21,7 +21,7 @@ use Rattle.maths.proofs.Convolution.{transform_mod}
 use Rattle.maths.proofs.Transform.{transform_scale, send_length, send_row, send_columns_rows, recover_length, recover_at, recover_rows_columns}
 use Rattle.calls.specs.Region.{region}
 use Rattle.calls.proofs.Region.{region_entry}
-use Rattle.montgomery.specs.Scaled.{unscale, Modulus}
+use Rattle.montgomery.specs.Scaled.{unscale}
 use Rattle.montgomery.proofs.Laws.{unscale_twice, unscale_twice_one}
 use Rattle.ntt_tables.specs.Tables.{Ready, Tables}
 use Rattle.ntt_columns.specs.Columns as columns
@@ -43,11 +43,10 @@ front_changed n z s after f fits e =
     take_at s after n (ap length made ∙ tabulate_length n _) ∙ made
 
 -- the columns may begin
-pub columns_ready : {q k m out δ limit : ℕ} {tables x : List ℕ} → Ready q δ tables → Modulus q k → length x ≡ δ * 256 → m ≤ δ → out ≤ δ
-    → AllBelow limit (m * 256) x → limit ≤ 2 ^ 25 → ColumnsReady q k m out δ (drop (δ * 256 + 264) tables) x
-columns_ready {q} {δ = δ} {tables = tables} ready modulus size read written below small =
+pub columns_ready : {q m out δ limit : ℕ} {tables x : List ℕ} → Ready q δ tables → length x ≡ δ * 256 → m ≤ δ → out ≤ δ
+    → AllBelow limit (m * 256) x → limit ≤ 2 ^ 25 → ColumnsReady q m out δ (drop (δ * 256 + 264) tables) x
+columns_ready {q} {δ = δ} {tables = tables} ready size read written below small =
     record {
-      modulus = modulus;
       some_rows = ready.some_rows;
       few_rows = ready.few_rows;
       read = read;

@@ -6,15 +6,14 @@ use Rattle.maths.specs.Sum as sums
 use Rattle.maths.specs.Sum.{sum}
 use Rattle.calls.specs.Region.{region, over}
 use Rattle.montgomery.specs.Scaled as scaled
-use Rattle.montgomery.specs.Scaled.{unscale, Modulus}
+use Rattle.montgomery.specs.Scaled.{unscale}
 use Rattle.ntt_tables.specs.Tables.{Ready}
 use Rattle.ntt_rows.specs.Rows.{ForwardReady, ForwardRow, InverseReady, InverseRow}
 use Rattle.ntt.specs.declared.Direction.{Direction}
 use Rattle.ntt.specs.declared.Direction.TheVariants.{Forward, Inverse}
 
 -- δ rows of 256 numbers and the tables of a transform
-pub record RowsReady (q k δ : ℕ) (tables x : List ℕ) : Type 0 where
-  pub modulus : Modulus q k
+pub record RowsReady (q δ : ℕ) (tables x : List ℕ) : Type 0 where
   pub ready : Ready q δ tables
   pub size : length x ≡ δ * 256
 
@@ -43,9 +42,9 @@ pub record InverseRows (q δ : ℕ) (tables old new : List ℕ) : Type 0 where
   pub rows : (r : ℕ) → r < δ → InverseAt q δ tables r (region old (r * 256) 256) (region new (r * 256) 256)
 
 -- what a row of a transform asks, and what becomes of it
-abbrev pub RowGiven : ℕ → ℕ → Direction → List ℕ → List ℕ → List ℕ → Type 0
-RowGiven q k (Forward by) twist powers x = ForwardReady q k by twist powers x
-RowGiven q k Inverse twist powers x = InverseReady q k twist powers x
+abbrev pub RowGiven : ℕ → Direction → List ℕ → List ℕ → List ℕ → Type 0
+RowGiven q (Forward by) twist powers x = ForwardReady q by twist powers x
+RowGiven q Inverse twist powers x = InverseReady q twist powers x
 
 abbrev pub RowTurned : ℕ → Direction → List ℕ → List ℕ → List ℕ → List ℕ → Type 0
 RowTurned q (Forward by) twist powers old new = ForwardRow q by twist powers old new

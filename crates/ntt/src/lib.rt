@@ -8,9 +8,10 @@ ghost use Rattle.maths.specs.Sum.{sum};
 ghost use Rattle.maths.specs.Congruence.{Mod};
 ghost use Rattle.maths.specs.Transform.{send, recover};
 ghost use Rattle.calls.specs.Region.{region};
-ghost use Rattle.montgomery.specs.Scaled.{Modulus};
 ghost use Rattle.ntt_tables.specs.Tables.{Ready, Tables};
 ghost use Rattle.ntt.specs.Rows.{RowsReady, RowReplaced, RowGiven, RowTurned, RowAt, RowsGiven, RowsTurned, InverseRows, first_row_at};
+
+use montgomery::Reducer;
 
 // Which transform a row is part of: a forward one, with the scaled form of the factor at its end, or an inverse one.
 #[derive(Clone, Copy)]
@@ -20,13 +21,13 @@ enum Direction {
 }
 
 // Transforms a row, in place, with the powers of its twist and those of the row.
-fn turn_row(x: &mut [u32], twist: &[u32], powers: &[u32], direction: Direction, q: u32, k: u32)
-    requires { RowGiven q k direction twist.now powers.now x.old }
-    ensures { RowTurned q direction twist.now powers.now x.old x.new }
+fn turn_row(x: &mut [u32], twist: &[u32], powers: &[u32], direction: Direction, reducer: Reducer)
+    requires { RowGiven reducer.q direction twist.now powers.now x.old }
+    ensures { RowTurned reducer.q direction twist.now powers.now x.old x.new }
 {
     match direction {
-        Direction::Forward(by) => ntt_rows::forward_row(x, twist, powers, by, q, k),
-        Direction::Inverse => ntt_rows::inverse_row(x, twist, powers, q, k),
+        Direction::Forward(by) => ntt_rows::forward_row(x, twist, powers, by, reducer),
+        Direction::Inverse => ntt_rows::inverse_row(x, twist, powers, reducer),
     }
 }
 
@@ -37,12 +38,11 @@ fn turn_row_at(
     direction: Direction,
     r: usize,
     rows: usize,
-    q: u32,
-    k: u32,
+    reducer: Reducer,
 )
-    requires { RowsReady q k rows tables.now x.old × (r < rows)
-        × RowGiven q k direction (region tables.now (r * 256) 256) (region tables.now (rows * 256) 264) (region x.old (r * 256) 256) }
-    ensures { RowReplaced (RowAt q direction rows tables.now r) r x.old x.new }
+    requires { RowsReady reducer.q rows tables.now x.old × (r < rows)
+        × RowGiven reducer.q direction (region tables.now (r * 256) 256) (region tables.now (rows * 256) 264) (region x.old (r * 256) 256) }
+    ensures { RowReplaced (RowAt reducer.q direction rows tables.now r) r x.old x.new }
 {
     let start = r * 256;
     let end = start + 256;
@@ -53,27 +53,26 @@ fn turn_row_at(
         &tables[start..end],
         &tables[row..row_end],
         direction,
-        q,
-        k,
+        reducer,
     );
 }
 
 // Transforms each row.
-fn turn_rows(x: &mut [u32], tables: &[u32], direction: Direction, rows: usize, q: u32, k: u32)
-    requires { RowsReady q k rows tables.now x.old × RowsGiven q rows direction x.old }
-    ensures { RowsTurned q direction rows tables.now x.old x.new }
+fn turn_rows(x: &mut [u32], tables: &[u32], direction: Direction, rows: usize, reducer: Reducer)
+    requires { RowsReady reducer.q rows tables.now x.old × RowsGiven reducer.q rows direction x.old }
+    ensures { RowsTurned reducer.q direction rows tables.now x.old x.new }
 {
     for r in 0..rows {
-        turn_row_at(x, tables, direction, r, rows, q, k);
+        turn_row_at(x, tables, direction, r, rows, reducer);
     }
 }
 
 // Transforms and twists each row.
-pub fn inverse_rows(x: &mut [u32], tables: &[u32], rows: usize, q: u32, k: u32)
-    requires { RowsReady q k rows tables.now x.old × AllBelow (2 * q) (rows * 256) x.old }
-    ensures { InverseRows q rows tables.now x.old x.new }
+pub fn inverse_rows(x: &mut [u32], tables: &[u32], rows: usize, reducer: Reducer)
+    requires { RowsReady reducer.q rows tables.now x.old × AllBelow (2 * reducer.q) (rows * 256) x.old }
+    ensures { InverseRows reducer.q rows tables.now x.old x.new }
 {
-    turn_rows(x, tables, Direction::Inverse, rows, q, k);
+    turn_rows(x, tables, Direction::Inverse, rows, reducer);
 }
 
 // The transform of the first `m` rows of `x`, with zeros for the others, stored in the order of 003: row `r`, column `c` is value r + δ · c. The twist
@@ -82,11 +81,11 @@ pub fn forward(x: &mut [u32], tables: &[u32], m: usize, rows: usize, q: u32)
     requires { Ready q rows tables.now × (m ≤ rows) × (length x.old ≡ rows * 256) × AllBelow q (m * 256) x.old }
     ensures { (w : ℕ) → Tables q rows w tables.now → x.new ≡ send q 256 rows w (take (m * 256) x.old) }
 {
-    let k = montgomery::negated_inverse(q);
+    let reducer = Reducer::new(q);
     let by = montgomery::scaled_scale(q);
     let columns = rows * 256 + 264;
-    ntt_columns::columns(x, &tables[columns..], m, rows, rows, q, k);
-    turn_rows(x, tables, Direction::Forward(by), rows, q, k);
+    ntt_columns::columns(x, &tables[columns..], m, rows, rows, reducer);
+    turn_rows(x, tables, Direction::Forward(by), rows, reducer);
 }
 
 // The first `m` rows of what a stored vector was made from: the transform with the inverse of the root it was sent with, scaled by any e of which `by` is
@@ -96,12 +95,12 @@ pub fn inverse(x: &mut [u32], tables: &[u32], by: u32, m: usize, rows: usize, q:
     ensures { (w e : ℕ) → Tables q rows w tables.now → Mod q by (e * 2 ^ 64)
         → take (m * 256) x.new ≡ recover q 256 rows w e (m * 256) x.old }
 {
-    let k = montgomery::negated_inverse(q);
+    let reducer = Reducer::new(q);
     let columns = rows * 256 + 264;
     let end = m * 256;
-    inverse_rows(x, tables, rows, q, k);
-    ntt_columns::columns(x, &tables[columns..], rows, m, rows, q, k);
-    ntt_settle::settle(&mut x[0..end], by, q, k);
+    inverse_rows(x, tables, rows, reducer);
+    ntt_columns::columns(x, &tables[columns..], rows, m, rows, reducer);
+    ntt_settle::settle(&mut x[0..end], by, reducer);
 }
 
 // The sum of the numbers of column `c`.
@@ -117,10 +116,10 @@ fn column_total(x: &[u32], c: usize, rows: usize) -> u32
 }
 
 // Place `c` of the first row of what a stored vector was made from, out of its rows as `inverse_rows` leaves them: what `inverse` writes there.
-pub fn first_row_place(x: &[u32], c: usize, by: u32, rows: usize, q: u32, k: u32) -> u32
-    requires { Modulus q k × (by < q) × (c < 256) × (rows ≤ 16) × (length x.now ≡ rows * 256) × AllBelow (2 * q) (rows * 256) x.now }
-    ensures { result ≡ first_row_at q by rows x.now c }
+pub fn first_row_place(x: &[u32], c: usize, by: u32, rows: usize, reducer: Reducer) -> u32
+    requires { (by < reducer.q) × (c < 256) × (rows ≤ 16) × (length x.now ≡ rows * 256) × AllBelow (2 * reducer.q) (rows * 256) x.now }
+    ensures { result ≡ first_row_at reducer.q by rows x.now c }
 {
     let total = column_total(x, c, rows);
-    ntt_settle::settle_number(total, by, q, k)
+    ntt_settle::settle_number(total, by, reducer)
 }

@@ -30,7 +30,7 @@ twice q lift multiple =
 abbrev pub TurnedBy : ℕ → ℕ → ℕ → ℕ → ℕ → Type 0
 TurnedBy q r a b w = Mod q r (difference q a b * w) × (r < 2 * q)
 
-module _ {q k lift a b c d : ℕ} (ready : ButterflyReady q k lift a b c d) where
+module _ {q lift a b c d : ℕ} (ready : ButterflyReady q lift a b c d) where
   -- with three multipliers
   pub twiddled_values : (t u v f h z₂ z₃ : ℕ) → TurnedBy q f a c t → TurnedBy q h b d u → TurnedBy q z₂ (a + c) (b + d) v → TurnedBy q z₃ f h v
       → LazyButterfly q lift t u v a b c d (a + c + (b + d)) (f + h) z₂ z₃
@@ -49,21 +49,20 @@ module _ {q k lift a b c d : ℕ} (ready : ButterflyReady q k lift a b c d) wher
       }
 
   -- with one: the difference of a and c, times 1
-  plain_difference : Mod q (a + (lift - c)) (difference q a c * 1)
-  plain_difference = rw mul-one (difference_lift q a c lift (some_modulus ready.lifted.modulus) ready.lifted.multiple (omega arith))
+  plain_difference : 0 < q → Mod q (a + (lift - c)) (difference q a c * 1)
+  plain_difference some = rw mul-one (difference_lift q a c lift some ready.lifted.multiple (omega arith))
 
-  pub plain_values : (u h : ℕ) → TurnedBy q h b d u
+  pub plain_values : 0 < q → (u h : ℕ) → TurnedBy q h b d u
       → LazyButterfly q lift 1 u 1 a b c d (a + c + (b + d)) (a + (lift - c) + h) (a + c + (2 * lift - (b + d))) (a + (lift - c) + (2 * lift - h))
-  plain_values u h h-is =
-      let some = some_modulus ready.lifted.modulus in
+  plain_values some u h h-is =
       let double = twice q lift ready.lifted.multiple in
       record {
         values = record {
           zeroth = mod_refl _;
-          first = mod_add plain_difference h-is.0;
+          first = mod_add (plain_difference some) h-is.0;
           second = rw mul-one (difference_lift q (a + c) (b + d) (2 * lift) some double (omega arith));
           third = rw (mul-one (difference q (difference q a c * 1) (difference q b d * u)))
-              (mod_trans (difference_lift q (a + (lift - c)) h (2 * lift) some double (omega arith)) (difference_mod plain_difference h-is.0));
+              (mod_trans (difference_lift q (a + (lift - c)) h (2 * lift) some double (omega arith)) (difference_mod (plain_difference some) h-is.0));
         };
         zeroth_below = omega arith;
         first_below = omega arith;

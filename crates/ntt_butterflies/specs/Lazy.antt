@@ -2,18 +2,16 @@
 -- Assumes nothing.
 use Rattle.std.specs.Prelude.{◌≡◌, ℕ, ◌*◌, ◌%◌, ◌^◌, ◌≤◌, ◌<◌}
 use Rattle.maths.specs.Butterfly.{Butterfly}
-use Rattle.montgomery.specs.Scaled.{Modulus}
 
 -- a multiple of q that numbers below 2 · q are below, with room for four of itself in 32 bits
-pub record Lift (q k lift : ℕ) : Type 0 where
-  pub modulus : Modulus q k
+pub record Lift (q lift : ℕ) : Type 0 where
   pub multiple : lift % q ≡ 0
   pub two_q : 2 * q ≤ lift
   pub room : 4 * lift < 2 ^ 32
 
 -- four numbers below lift
-pub record ButterflyReady (q k lift a b c d : ℕ) : Type 0 where
-  pub lifted : Lift q k lift
+pub record ButterflyReady (q lift a b c d : ℕ) : Type 0 where
+  pub lifted : Lift q lift
   pub a_below : a < lift
   pub b_below : b < lift
   pub c_below : c < lift

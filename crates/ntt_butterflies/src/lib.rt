@@ -5,8 +5,10 @@
 ghost use Rattle.std.specs.Prelude.{◌≡◌, ◌*◌, ◌%◌, ◌^◌, ◌<◌};
 ghost use Rattle.maths.specs.Congruence.{Mod};
 ghost use Rattle.maths.specs.Butterfly.{difference};
-ghost use Rattle.montgomery.specs.Scaled.{unscale, Modulus};
+ghost use Rattle.montgomery.specs.Scaled.{unscale};
 ghost use Rattle.ntt_butterflies.specs.Lazy.{ButterflyReady, LazyButterfly};
+
+use montgomery::Reducer;
 
 // What a butterfly gives.
 #[derive(Drop)]
@@ -18,11 +20,11 @@ pub struct Values {
 }
 
 // The difference of two numbers below `lift`, a multiple of q, times the number that `w` is the scaled form of.
-fn turned_difference(a: u32, b: u32, lift: u32, w: u32, q: u32, k: u32) -> u32
-    requires { Modulus q k × (w < q) × (lift % q ≡ 0) × (2 * lift < 2 ^ 32) × (a < lift) × (b < lift) }
-    ensures { Mod q result (difference q a b * unscale q w) × (result < 2 * q) }
+fn turned_difference(a: u32, b: u32, lift: u32, w: u32, reducer: Reducer) -> u32
+    requires { (w < reducer.q) × (lift % reducer.q ≡ 0) × (2 * lift < 2 ^ 32) × (a < lift) × (b < lift) }
+    ensures { Mod reducer.q result (difference reducer.q a b * unscale reducer.q w) × (result < 2 * reducer.q) }
 {
-    montgomery::product(a + (lift - b), w, q, k)
+    montgomery::product(a + (lift - b), w, reducer)
 }
 
 // The butterfly with the twiddle factors that t, u and v are the scaled forms of.
@@ -35,35 +37,43 @@ pub fn twiddled_butterfly(
     u: u32,
     v: u32,
     lift: u32,
-    q: u32,
-    k: u32,
+    reducer: Reducer,
 ) -> Values
-    requires { ButterflyReady q k lift a b c d × (t < q) × (u < q) × (v < q) }
-    ensures { LazyButterfly q lift (unscale q t) (unscale q u) (unscale q v) a b c d result.zeroth result.first result.second result.third }
+    requires { ButterflyReady reducer.q lift a b c d × (t < reducer.q) × (u < reducer.q) × (v < reducer.q) }
+    ensures { LazyButterfly reducer.q lift (unscale reducer.q t) (unscale reducer.q u) (unscale reducer.q v) a b c d
+        result.zeroth result.first result.second result.third }
 {
     let twice = 2 * lift;
     let e = a + c;
-    let f = turned_difference(a, c, lift, t, q, k);
+    let f = turned_difference(a, c, lift, t, reducer);
     let g = b + d;
-    let h = turned_difference(b, d, lift, u, q, k);
+    let h = turned_difference(b, d, lift, u, reducer);
     Values {
         zeroth: e + g,
         first: f + h,
-        second: turned_difference(e, g, twice, v, q, k),
-        third: turned_difference(f, h, twice, v, q, k),
+        second: turned_difference(e, g, twice, v, reducer),
+        third: turned_difference(f, h, twice, v, reducer),
     }
 }
 
 // The butterfly with one twiddle factor, that u is the scaled form of; the other two are 1.
-pub fn plain_butterfly(a: u32, b: u32, c: u32, d: u32, u: u32, lift: u32, q: u32, k: u32) -> Values
-    requires { ButterflyReady q k lift a b c d × (u < q) }
-    ensures { LazyButterfly q lift 1 (unscale q u) 1 a b c d result.zeroth result.first result.second result.third }
+pub fn plain_butterfly(
+    a: u32,
+    b: u32,
+    c: u32,
+    d: u32,
+    u: u32,
+    lift: u32,
+    reducer: Reducer,
+) -> Values
+    requires { ButterflyReady reducer.q lift a b c d × (u < reducer.q) }
+    ensures { LazyButterfly reducer.q lift 1 (unscale reducer.q u) 1 a b c d result.zeroth result.first result.second result.third }
 {
     let twice = 2 * lift;
     let e = a + c;
     let f = a + (lift - c);
     let g = b + d;
-    let h = turned_difference(b, d, lift, u, q, k);
+    let h = turned_difference(b, d, lift, u, reducer);
     Values {
         zeroth: e + g,
         first: f + h,

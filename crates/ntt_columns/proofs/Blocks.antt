@@ -26,7 +26,7 @@ pub record Storing (q m δ b : ℕ) (factors old : List ℕ) (r : ℕ) (new : Li
   pub below : (i j : ℕ) → i < r → j < 64 → at new (i * 256 + (64 * b + j)) < 8 * q
   pub others : (p : ℕ) → ((i j : ℕ) → i < r → j < 64 → p ≡ i * 256 + (64 * b + j) → ⊥) → at new p ≡ at old p
 
-module _ {q k m out δ b : ℕ} {factors old : List ℕ} (ready : BlockReady q k m out δ b factors old) where
+module _ {q m out δ b : ℕ} {factors old : List ℕ} (ready : BlockReady q m out δ b factors old) where
   -- what the copy of the columns asks
   pub load_ready : {block : List ℕ} → length block ≡ 1024 → LoadReady b m block old
   load_ready size =
@@ -59,10 +59,9 @@ module _ {q k m out δ b : ℕ} {factors old : List ℕ} (ready : BlockReady q k
   module _ {block lent : List ℕ} (loaded : Loaded b m old lent block) where
     -- what the sums of row r ask
     pub sums_ready : {sums : List ℕ} {r : ℕ} → ZerosFrom m lent → length block ≡ 1024 → length sums ≡ 64 → r < out
-        → SumsReady q k m r δ factors block sums
+        → SumsReady q m r δ factors block sums
     sums_ready zeros size sums_size h =
         record {
-          modulus = ready.modulus;
           few_rows = ready.few_rows;
           read = ready.read;
           row_below = omega (arith, ready.written);
@@ -125,7 +124,7 @@ pub record ColumnsDone (q m out δ : ℕ) (factors old : List ℕ) (b : ℕ) (ne
   pub below : (r c : ℕ) → r < out → c < 64 * b → at new (r * 256 + c) < 8 * q
   pub rest : (r c : ℕ) → c < 256 → (r < out → 64 * b ≤ c) → at new (r * 256 + c) ≡ at old (r * 256 + c)
 
-module _ {q k m out δ : ℕ} {factors old : List ℕ} (ready : ColumnsReady q k m out δ factors old) where
+module _ {q m out δ : ℕ} {factors old : List ℕ} (ready : ColumnsReady q m out δ factors old) where
   -- before the first block
   pub columns_none : ColumnsDone q m out δ factors old 0 old
   columns_none =
@@ -139,10 +138,9 @@ module _ {q k m out δ : ℕ} {factors old : List ℕ} (ready : ColumnsReady q k
 
   module _ {b : ℕ} {new : List ℕ} (s : ColumnsDone q m out δ factors old b new) (h : b < 4) where
     -- the columns of the next block are as they were
-    pub block_ready : BlockReady q k m out δ b factors new
+    pub block_ready : BlockReady q m out δ b factors new
     block_ready =
         record {
-          modulus = ready.modulus;
           few_rows = ready.few_rows;
           read = ready.read;
           written = ready.written;

@@ -14,7 +14,7 @@ use Rattle.maths.specs.Congruence.{Mod}
 use Rattle.maths.proofs.Congruence.{mod_refl, mod_eq, mod_trans, mod_add}
 use Rattle.montgomery.specs.Scaled.{unscale}
 use Rattle.montgomery.proofs.Laws.{unscale_remainder, unscale_add, unscale_mul_left}
-use Rattle.ntt_columns.specs.Blocks.{four_products_of, Factors, FourReady, AddReady, Added}
+use Rattle.ntt_columns.specs.Blocks.{four_products_of, Factors, Added}
 
 -- the sum of four numbers in two halves
 pub in_halves : (w x y z : ℕ) → w + x + (y + z) ≡ w + x + y + z
@@ -45,17 +45,6 @@ four_below {q} block j a b c d numbers factors h some =
     let third = product_most (numbers.each (j + 128) (omega arith)) factors.third in
     let fourth = product_most (numbers.each (j + 192) (omega arith)) factors.fourth in
     omega (arith, sum_most _ _ _ _ (2 ^ 25 * q) first second third fourth)
-
--- what column j of the four rows asks
-pub four_ready : {q k a b c d : ℕ} {sums block : List ℕ} (j : ℕ) → AddReady q k a b c d sums block → j < 64 → FourReady block j a b c d
-four_ready j ready h =
-    let factors = ready.factors in
-    record {
-      size = ready.size;
-      inside = h;
-      numbers = ready.numbers;
-      factors = record { first = omega arith; second = omega arith; third = omega arith; fourth = omega arith };
-    }
 
 -- four sums unscaled
 pub unscale_four : (q w x y z : ℕ) → Mod q (unscale q (w + x + y + z)) (unscale q w + unscale q x + unscale q y + unscale q z)

@@ -15,7 +15,7 @@ use Rattle.maths.proofs.Sum.{sum_none, sum_split, sum_cong, sum_pad}
 use Rattle.maths.proofs.Congruence.{mod_refl, mod_eq, mod_trans, mod_add}
 use Rattle.calls.specs.Region.{region}
 use Rattle.calls.proofs.Region.{region_length, region_entry}
-use Rattle.montgomery.specs.Scaled.{unscale}
+use Rattle.montgomery.specs.Scaled.{unscale, Odd}
 use Rattle.ntt_columns.specs.Columns.{column_sum}
 use Rattle.ntt_columns.specs.Blocks.{four_products_of, AddReady, Added, SumsReady, Sums}
 
@@ -58,7 +58,7 @@ part_at block n i j l e h =
     let place : 64 * n + l ≡ 64 * (n + i) + j = omega arith in
     region_entry block (64 * n) 256 l 0 h ∙ ap (at block) place
 
-module _ {q k m r δ : ℕ} {factors block old : List ℕ} (ready : SumsReady q k m r δ factors block old) where
+module _ {q m r δ : ℕ} {factors block old : List ℕ} (ready : SumsReady q m r δ factors block old) where
   -- before the first row
   pub summing_none : {sums : List ℕ} → sums ≡ replicate (length old) 0 → Summing q m r δ factors block 0 0 sums
   unfolding column_sum
@@ -88,14 +88,12 @@ module _ {q k m r δ : ℕ} {factors block old : List ℕ} (ready : SumsReady q 
     rows_inside h = omega (arith, s.fours, ready.read, ready.few_rows)
 
     -- all that the next four rows ask
-    pub add_ready : {second third fourth : ℕ} → n < m → second < δ → third < δ → fourth < δ
-        → AddReady q k (at factors place) (at factors second) (at factors third) (at factors fourth) sums (region block (64 * n) 256)
-    add_ready {second} {third} {fourth} h a b c =
+    pub add_ready : {second third fourth : ℕ} → Odd q → n < m → second < δ → third < δ → fourth < δ
+        → AddReady q (at factors place) (at factors second) (at factors third) (at factors fourth) sums (region block (64 * n) 256)
+    add_ready {second} {third} {fourth} odd h a b c =
         let inside : 64 * n + 256 ≤ length block = omega (arith, rows_inside h, ready.size) in
         let below = ready.factors_below in
-        let odd = ready.modulus.modulus in
         record {
-          modulus = ready.modulus;
           sums_size = s.size;
           room = record { each = λ j l. omega (arith, sum_small j l, odd.small) };
           size = region_length block (64 * n) 256 inside;
@@ -111,10 +109,9 @@ module _ {q k m r δ : ℕ} {factors block old : List ℕ} (ready : SumsReady q 
         }
 
     -- after the last row: the rows past m are zeros
-    pub summing_all : m ≤ n → Sums q m r δ factors block sums
+    pub summing_all : Odd q → m ≤ n → Sums q m r δ factors block sums
     unfolding column_sum
-    summing_all h =
-        let odd = ready.modulus.modulus in
+    summing_all odd h =
         record {
           values = λ j l.
               mod_trans (s.values j l)

@@ -3,7 +3,7 @@
 use Rattle.std.specs.Prelude.{◌≡◌, List, ℕ, ◌+◌, ◌*◌, ◌^◌, ◌≤◌, ◌<◌, length}
 use Rattle.maths.specs.Vector.{at, AllBelow}
 use Rattle.maths.specs.Congruence.{Mod}
-use Rattle.montgomery.specs.Scaled.{unscale, Modulus}
+use Rattle.montgomery.specs.Scaled.{unscale}
 use Rattle.ntt_columns.specs.Columns.{column_sum}
 
 -- the products of four numbers of column j of a block, in rows one after the other, with four factors
@@ -25,8 +25,7 @@ pub record FourReady (block : List ℕ) (j a b c d : ℕ) : Type 0 where
   pub factors : Factors (2 ^ 24) a b c d
 
 -- 64 sums, four rows of 64 numbers, and four factors in scaled form
-pub record AddReady (q k a b c d : ℕ) (sums block : List ℕ) : Type 0 where
-  pub modulus : Modulus q k
+pub record AddReady (q a b c d : ℕ) (sums block : List ℕ) : Type 0 where
   pub sums_size : length sums ≡ 64
   pub room : AllBelow (2 ^ 30) 64 sums
   pub size : length block ≡ 256
@@ -40,8 +39,7 @@ pub record Added (q a b c d : ℕ) (block old new : List ℕ) : Type 0 where
   pub below : (j : ℕ) → j < 64 → at new j < at old j + 2 * q
 
 -- a block of 16 rows of 64 numbers, zeros from row m on, and the factors of the sums of row r
-pub record SumsReady (q k m r δ : ℕ) (factors block sums : List ℕ) : Type 0 where
-  pub modulus : Modulus q k
+pub record SumsReady (q m r δ : ℕ) (factors block sums : List ℕ) : Type 0 where
   pub few_rows : δ ≤ 16
   pub read : m ≤ δ
   pub row_below : r < δ
@@ -75,8 +73,7 @@ pub record ZerosFrom (m : ℕ) (block : List ℕ) : Type 0 where
   pub zeros : (i : ℕ) → 64 * m ≤ i → at block i ≡ 0
 
 -- the columns from 64 · b on, before they are transformed
-pub record BlockReady (q k m out δ b : ℕ) (factors x : List ℕ) : Type 0 where
-  pub modulus : Modulus q k
+pub record BlockReady (q m out δ b : ℕ) (factors x : List ℕ) : Type 0 where
   pub few_rows : δ ≤ 16
   pub read : m ≤ δ
   pub written : out ≤ δ

@@ -5,15 +5,14 @@ use Rattle.std.specs.Prelude.{◌≡◌, List, ℕ, ◌+◌, ◌*◌, ◌%◌, �
 use Rattle.maths.specs.Vector.{at, AllBelow}
 use Rattle.maths.specs.Sum.{sum}
 use Rattle.maths.specs.Congruence.{Mod}
-use Rattle.montgomery.specs.Scaled.{unscale, Modulus}
+use Rattle.montgomery.specs.Scaled.{unscale}
 
 -- value r of a column: factors has the δ powers of the root of a column, one after the other, in scaled form
 unfoldable pub column_sum : ℕ → List ℕ → ℕ → ℕ → (ℕ → ℕ) → ℕ → ℕ
 column_sum q factors δ m column r = sum m (λ n. column n * unscale q (at factors (r * n % δ)))
 
 -- δ rows of 256 numbers, of which the first m are read and the first out are written, and the δ factors
-pub record ColumnsReady (q k m out δ : ℕ) (factors x : List ℕ) : Type 0 where
-  pub modulus : Modulus q k
+pub record ColumnsReady (q m out δ : ℕ) (factors x : List ℕ) : Type 0 where
   pub some_rows : 0 < δ
   pub few_rows : δ ≤ 16
   pub read : m ≤ δ

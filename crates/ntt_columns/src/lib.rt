@@ -6,6 +6,8 @@ ghost use Rattle.std.specs.Prelude.{◌≡◌, ◌+◌, ◌<◌};
 ghost use Rattle.ntt_columns.specs.Columns.{ColumnsReady, Columns};
 ghost use Rattle.ntt_columns.specs.Blocks.{four_products_of, FourReady, AddReady, Added, SumsReady, Sums, LoadReady, Loaded, ZerosFrom, BlockReady, Block};
 
+use montgomery::Reducer;
+
 // The sum of four products, of numbers that are 64 places apart.
 fn four_products(block: &[u32], at: usize, a: u32, b: u32, c: u32, d: u32) -> u64
     requires { FourReady block.now at a b c d }
@@ -19,12 +21,12 @@ fn four_products(block: &[u32], at: usize, a: u32, b: u32, c: u32, d: u32) -> u6
 }
 
 // Adds to each of 64 sums four products.
-fn add_four(sums: &mut [u32], block: &[u32], a: u32, b: u32, c: u32, d: u32, q: u32, k: u32)
-    requires { AddReady q k a b c d sums.old block.now }
-    ensures { Added q a b c d block.now sums.old sums.new }
+fn add_four(sums: &mut [u32], block: &[u32], a: u32, b: u32, c: u32, d: u32, reducer: Reducer)
+    requires { AddReady reducer.q a b c d sums.old block.now }
+    ensures { Added reducer.q a b c d block.now sums.old sums.new }
 {
     for j in 0..64 {
-        sums[j] = sums[j] + montgomery::step(four_products(block, j, a, b, c, d), q, k);
+        sums[j] = sums[j] + montgomery::step(four_products(block, j, a, b, c, d), reducer);
     }
 }
 
@@ -36,11 +38,10 @@ fn column_sums(
     m: usize,
     r: usize,
     rows: usize,
-    q: u32,
-    k: u32,
+    reducer: Reducer,
 )
-    requires { SumsReady q k m r rows factors.now block.now sums.old }
-    ensures { Sums q m r rows factors.now block.now sums.new }
+    requires { SumsReady reducer.q m r rows factors.now block.now sums.old }
+    ensures { Sums reducer.q m r rows factors.now block.now sums.new }
 {
     let mut place: usize = 0;
     calls::clear(sums);
@@ -57,8 +58,7 @@ fn column_sums(
             factors[second],
             factors[third],
             factors[fourth],
-            q,
-            k,
+            reducer,
         );
         place = residues::advance(fourth, r, rows);
     }
@@ -86,29 +86,28 @@ fn column_block(
     m: usize,
     out: usize,
     rows: usize,
-    q: u32,
-    k: u32,
+    reducer: Reducer,
 )
-    requires { BlockReady q k m out rows b factors.now x.old × ZerosFrom m block.old }
-    ensures result { Block q m out rows b factors.now x.old x.new }
+    requires { BlockReady reducer.q m out rows b factors.now x.old × ZerosFrom m block.old }
+    ensures result { Block reducer.q m out rows b factors.now x.old x.new }
     ensures lent { ZerosFrom m block.new }
 {
     let mut sums = [0u32; 64];
     load_block(block, x, b, m);
     for r in 0..out {
-        column_sums(&mut sums, block, factors, m, r, rows, q, k);
+        column_sums(&mut sums, block, factors, m, r, rows, reducer);
         calls::copy_in(x, 256 * r + 64 * b, &sums);
     }
 }
 
 // The first `out` values of the transform of each of the 256 columns of `m` numbers, in place. The rows from `m` on are not read and count as zeros;
 // those from `out` on are left as they were. `factors` has the powers of the root of a column, in scaled form.
-pub fn columns(x: &mut [u32], factors: &[u32], m: usize, out: usize, rows: usize, q: u32, k: u32)
-    requires { ColumnsReady q k m out rows factors.now x.old }
-    ensures { Columns q m out rows factors.now x.old x.new }
+pub fn columns(x: &mut [u32], factors: &[u32], m: usize, out: usize, rows: usize, reducer: Reducer)
+    requires { ColumnsReady reducer.q m out rows factors.now x.old }
+    ensures { Columns reducer.q m out rows factors.now x.old x.new }
 {
     let mut block = [0u32; 1024];
     for b in 0..4 {
-        column_block(x, &mut block, factors, b, m, out, rows, q, k);
+        column_block(x, &mut block, factors, b, m, out, rows, reducer);
     }
 }

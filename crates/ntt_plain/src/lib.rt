@@ -7,8 +7,9 @@ ghost use Rattle.std.specs.Prelude.{◌≡◌, ℕ, ◌*◌, ◌/◌, ◌%◌, �
 ghost use Rattle.maths.specs.Root.{power_table};
 ghost use Rattle.maths.specs.Congruence.{Mod};
 ghost use Rattle.maths.specs.Transform.{send, recover};
-ghost use Rattle.montgomery.specs.Scaled.{Modulus};
 ghost use Rattle.ntt_plain.specs.Plain.{strided_sum_of, Summable, columns, twisted, rows, Plain, Lazily};
+
+use montgomery::Reducer;
 
 // The sum of `count` numbers, `stride` places apart from `first` on, each times a power of the root; the exponents are `step` apart.
 fn strided_sum(
@@ -34,24 +35,23 @@ fn strided_sum(
 }
 
 // Fills `to` with values of the transforms of the columns of `x`, which has `m` rows; each is divided by 2^32 on the way.
-// `k` is the negated inverse of q modulo 2^32 and `s` the remainder of 2^64 by q; the reduction needs both.
+// `s` is the remainder of 2^64 by q, which the reduction needs.
 fn fill_columns(
     to: &mut [u32],
     x: &[u32],
     powers: &[u32],
     m: usize,
     row: usize,
-    q: u32,
-    k: u32,
     s: u32,
+    reducer: Reducer,
 )
-    requires { Plain q row powers.now x.now × (length x.now ≡ m * row) × (length to.old ≤ length powers.now)
-        × Modulus q k × (s ≡ 2 ^ 64 % q) }
-    ensures { Lazily q (columns q row m (length to.old) powers.now x.now) to.new }
+    requires { Plain reducer.q row powers.now x.now × (length x.now ≡ m * row) × (length to.old ≤ length powers.now)
+        × (s ≡ 2 ^ 64 % reducer.q) }
+    ensures { Lazily reducer.q (columns reducer.q row m (length to.old) powers.now x.now) to.new }
 {
     for (i, number) in to.iter_mut().enumerate() {
         let sum = strided_sum(x, i % row, row, m, powers, i / row * row);
-        *number = montgomery::long_step(sum, s, q, k);
+        *number = montgomery::long_step(sum, s, reducer);
     }
 }
 
@@ -63,47 +63,46 @@ fn twist_exponent(i: usize, row: usize) -> usize
     i / row * (i % row)
 }
 
-// Multiplies each number by the power of its row and column; each is divided by 2^32 on the way, with `k` as above.
-fn twist(x: &mut [u32], powers: &[u32], row: usize, q: u32, k: u32)
-    requires { Plain q row powers.now x.old × Modulus q k }
-    ensures { Lazily q (twisted q row powers.now x.old) x.new }
+// Multiplies each number by the power of its row and column; each is divided by 2^32 on the way.
+fn twist(x: &mut [u32], powers: &[u32], row: usize, reducer: Reducer)
+    requires { Plain reducer.q row powers.now x.old }
+    ensures { Lazily reducer.q (twisted reducer.q row powers.now x.old) x.new }
 {
     for (i, number) in x.iter_mut().enumerate() {
         let exponent = twist_exponent(i, row);
-        *number = montgomery::product(*number, powers[exponent], q, k);
+        *number = montgomery::product(*number, powers[exponent], reducer);
     }
 }
 
-// Fills `to` with the transform of each row of `x`; each number is divided by 2^32 on the way, with `k` and `s` as above.
+// Fills `to` with the transform of each row of `x`; each number is divided by 2^32 on the way, with `s` as above.
 fn fill_rows(
     to: &mut [u32],
     x: &[u32],
     powers: &[u32],
     count: usize,
     row: usize,
-    q: u32,
-    k: u32,
     s: u32,
+    reducer: Reducer,
 )
-    requires { Plain q row powers.now x.now × (length x.now ≡ count * row) × (length powers.now ≡ length x.now)
-        × (length to.old ≡ length x.now) × Modulus q k × (s ≡ 2 ^ 64 % q) }
-    ensures { Lazily q (rows q row count powers.now x.now) to.new }
+    requires { Plain reducer.q row powers.now x.now × (length x.now ≡ count * row) × (length powers.now ≡ length x.now)
+        × (length to.old ≡ length x.now) × (s ≡ 2 ^ 64 % reducer.q) }
+    ensures { Lazily reducer.q (rows reducer.q row count powers.now x.now) to.new }
 {
     for (i, number) in to.iter_mut().enumerate() {
         let sum = strided_sum(x, i / row * row, 1, row, powers, i % row * count);
-        *number = montgomery::long_step(sum, s, q, k);
+        *number = montgomery::long_step(sum, s, reducer);
     }
 }
 
 // The factor that the numbers are settled with: `e`, with what makes up for the divisions by 2^32 of three steps and of the settling.
-fn settling_factor(e: u32, s: u32, q: u32, k: u32) -> u32
-    requires { Modulus q k × (s ≡ 2 ^ 64 % q) }
-    ensures { (result < q) × Mod q result (e * 2 ^ 128) }
+fn settling_factor(e: u32, s: u32, reducer: Reducer) -> u32
+    requires { s ≡ 2 ^ 64 % reducer.q }
+    ensures { (result < reducer.q) × Mod reducer.q result (e * 2 ^ 128) }
 {
-    let once = montgomery::product(e, s, q, k);
-    let twice = montgomery::product(once, s, q, k);
-    let thrice = montgomery::product(twice, s, q, k);
-    ntt_settle::settle_number(thrice, s, q, k)
+    let once = montgomery::product(e, s, reducer);
+    let twice = montgomery::product(once, s, reducer);
+    let thrice = montgomery::product(twice, s, reducer);
+    ntt_settle::settle_number(thrice, s, reducer)
 }
 
 // The transform of `m` rows, stored in the order of 003; `between` is lent for what comes before the rows.
@@ -122,13 +121,13 @@ pub fn forward_with_buffer(
     ensures { (w : ℕ) → powers.now ≡ power_table q w (length powers.now) → Mod q (w ^ length powers.now) 1
         → out.new ≡ send q row count w x.now }
 {
-    let k = montgomery::negated_inverse(q);
+    let reducer = Reducer::new(q);
     let s = montgomery::scaled_scale(q);
-    let by = settling_factor(1, s, q, k);
-    fill_columns(between, x, powers, m, row, q, k, s);
-    twist(between, powers, row, q, k);
-    fill_rows(out, between, powers, count, row, q, k, s);
-    ntt_settle::settle(out, by, q, k);
+    let by = settling_factor(1, s, reducer);
+    fill_columns(between, x, powers, m, row, s, reducer);
+    twist(between, powers, row, reducer);
+    fill_rows(out, between, powers, count, row, s, reducer);
+    ntt_settle::settle(out, by, reducer);
 }
 
 // The first rows of what a stored vector was made from, as many as `out` has, each number times `e`: the transform with the root whose powers are lent.
@@ -147,13 +146,13 @@ pub fn inverse_with_buffer(
     ensures { (w m : ℕ) → powers.now ≡ power_table q w (length powers.now) → Mod q (w ^ length powers.now) 1
         → length out.old ≡ m * row → m ≤ count → out.new ≡ recover q row count w e (m * row) x.now }
 {
-    let k = montgomery::negated_inverse(q);
+    let reducer = Reducer::new(q);
     let s = montgomery::scaled_scale(q);
-    let by = settling_factor(e, s, q, k);
-    fill_rows(between, x, powers, count, row, q, k, s);
-    twist(between, powers, row, q, k);
-    fill_columns(out, between, powers, count, row, q, k, s);
-    ntt_settle::settle(out, by, q, k);
+    let by = settling_factor(e, s, reducer);
+    fill_rows(between, x, powers, count, row, s, reducer);
+    twist(between, powers, row, reducer);
+    fill_columns(out, between, powers, count, row, s, reducer);
+    ntt_settle::settle(out, by, reducer);
 }
 
 // The transform of `m` rows of `row` numbers, with zeros for the others of `count` rows, stored in the order of 003: row `r`, column `c` is value

@@ -10,7 +10,6 @@ use Rattle.sets.specs.declared.Parameters.{Parameters}
 use Rattle.sets.specs.Table.{Listed}
 use Rattle.sets.specs.Rules.{ByteRules}
 use Rattle.sets.specs.Derived.{transform_size_of, transform_root}
-use Rattle.montgomery.specs.Scaled.{Modulus}
 use Rattle.ntt.specs.Rows.{RowsReady, InverseRows}
 use Rattle.ntt.proofs.Whole.{inverse_below, first_recovered}
 use Rattle.ntt_by_row.proofs.Lent.{doubled, scale_of}
@@ -30,10 +29,9 @@ module _ (p : Parameters) (bytes : ByteRules p) (known : Listed p) (i : ℕ) whe
 
   module _ {tables old : List ℕ} (lent : RootTables p i tables) (stored : Stored p i old) where
     -- the rows may be taken back
-    pub rows_recoverable : {k : ℕ} → Modulus p.q k
-        → RowsReady p.q k (row_count p i) tables old × AllBelow (2 * p.q) (row_count p i * 256) old
-    rows_recoverable modulus = (
-      record { modulus = modulus; ready = lent.lent.wide row_256; size = stored.size ∙ sym rows_256 },
+    pub rows_recoverable : RowsReady p.q (row_count p i) tables old × AllBelow (2 * p.q) (row_count p i * 256) old
+    rows_recoverable = (
+      record { ready = lent.lent.wide row_256; size = stored.size ∙ sym rows_256 },
       rw rows_256 (doubled stored.residues),
     )
 

@@ -9,7 +9,6 @@ use Rattle.maths.specs.Transform.{send, recover}
 use Rattle.maths.proofs.Transform.{send_length, recover_length}
 use Rattle.maths.specs.Vector.{AllBelow}
 use Rattle.ntt.proofs.Whole.{send_below, recover_below}
-use Rattle.montgomery.specs.Scaled.{Modulus}
 use Rattle.sets.specs.declared.Parameters.{Parameters}
 use Rattle.sets.specs.Table.{Listed}
 use Rattle.sets.specs.Derived.{transform_size_of}
@@ -86,8 +85,8 @@ module _ (p : Parameters) (known : Listed p) (i : ℕ) where
   factors same x y = rw same (y.size ∙ sym x.size, rw x.size y.residues)
 
   -- a total to which products may be added, of which x has one factor in scaled form and y the other
-  pub addends : {k : ℕ} {total x y : List ℕ} → Modulus p.q k → Stored p i total → Stored p i x → Stored p i y
-      → Modulus p.q k × (length x ≡ length total) × (length y ≡ length total) × AllBelow p.q (length total) total
+  pub addends : {total x y : List ℕ} → Stored p i total → Stored p i x → Stored p i y
+      → (length x ≡ length total) × (length y ≡ length total) × AllBelow p.q (length total) total
       × AllBelow p.q (length total) x
-  addends modulus total x y =
-      (modulus, x.size ∙ sym total.size, y.size ∙ sym total.size, rw total.size total.residues, rw total.size x.residues)
+  addends total x y =
+      (x.size ∙ sym total.size, y.size ∙ sym total.size, rw total.size total.residues, rw total.size x.residues)

@@ -10,11 +10,12 @@ ghost use Rattle.calls.specs.Region.{over};
 ghost use Rattle.sets.specs.Table.{Listed};
 ghost use Rattle.sets.specs.Derived.{transform_size_of};
 ghost use Rattle.sets.specs.Rules.{Rules, ByteRules};
-ghost use Rattle.montgomery.specs.Scaled.{scale, Odd, Modulus};
+ghost use Rattle.montgomery.specs.Scaled.{scale, Odd};
 ghost use Rattle.ntt_products.specs.Stored.{row_count, size_inverse_of, row_scale, inverse_powers, sent, sent_inverse, recovered_inverse, recovered};
 ghost use Rattle.ntt_products.specs.Stored.{unscaled, products, accumulated, correlations};
 ghost use Rattle.ntt_products.specs.Placed.{Placed, SentScaled, table_length_of, SetLent, SetTables, RootTables, InverseTables, TablesOf, root_of, RowsRecovered};
 
+use montgomery::Reducer;
 use sets::Parameters;
 
 // Which root a transform goes with: root number i of a set, or its inverse.
@@ -25,24 +26,24 @@ pub enum WhichRoot {
 }
 
 // Multiplies each number of `x` by the one that the number of `y` at its place is the scaled form of.
-fn multiply(x: &mut [u32], y: &[u32], q: u32, k: u32)
-    requires { Modulus q k × (length y.now ≡ length x.old) × AllBelow q (length x.old) y.now }
-    ensures { x.new ≡ products q x.old y.now }
+fn multiply(x: &mut [u32], y: &[u32], reducer: Reducer)
+    requires { (length y.now ≡ length x.old) × AllBelow reducer.q (length x.old) y.now }
+    ensures { x.new ≡ products reducer.q x.old y.now }
 {
     for (j, number) in x.iter_mut().enumerate() {
-        *number = ntt_settle::settle_number(*number, y[j], q, k);
+        *number = ntt_settle::settle_number(*number, y[j], reducer);
     }
 }
 
 // Adds to each number of `total` the product of the numbers at its place: the one of `y`, and the one that `x` has the scaled form of.
-pub fn accumulate(total: &mut [u32], x: &[u32], y: &[u32], q: u32, k: u32)
-    requires { Modulus q k × (length x.now ≡ length total.old) × (length y.now ≡ length total.old)
-        × AllBelow q (length total.old) total.old × AllBelow q (length total.old) x.now }
-    ensures { total.new ≡ accumulated q total.old (unscaled q x.now) y.now }
+pub fn accumulate(total: &mut [u32], x: &[u32], y: &[u32], reducer: Reducer)
+    requires { (length x.now ≡ length total.old) × (length y.now ≡ length total.old)
+        × AllBelow reducer.q (length total.old) total.old × AllBelow reducer.q (length total.old) x.now }
+    ensures { total.new ≡ accumulated reducer.q total.old (unscaled reducer.q x.now) y.now }
 {
     for (j, sum) in total.iter_mut().enumerate() {
-        let product = ntt_settle::settle_number(y[j], x[j], q, k);
-        *sum = residues::add(*sum, product, q);
+        let product = ntt_settle::settle_number(y[j], x[j], reducer);
+        *sum = residues::add(*sum, product, reducer.q);
     }
 }
 
@@ -52,8 +53,7 @@ fn scale_first(x: &mut [u32], n: usize, q: u32)
     ensures { x.new ≡ over x.old 0 (map (scale q) (take n x.old)) }
 {
     let by = montgomery::scaled_scale(q);
-    let k = montgomery::negated_inverse(q);
-    ntt_settle::settle(&mut x[0..n], by, q, k);
+    ntt_settle::settle(&mut x[0..n], by, Reducer::new(q));
 }
 
 // The rows of transform number i.
@@ -167,13 +167,7 @@ pub fn recover_rows(p: Parameters, i: usize, tables: &[u32], x: &mut [u32])
     requires { ByteRules p × Listed p × RootTables p i tables.now × Placed p i (transform_size_of p i) x.old }
     ensures { RowsRecovered p i x.old x.new }
 {
-    ntt::inverse_rows(
-        x,
-        tables,
-        rows_of(p, i),
-        p.q,
-        montgomery::negated_inverse(p.q),
-    );
+    ntt::inverse_rows(x, tables, rows_of(p, i), Reducer::new(p.q));
 }
 
 // Recovers the first `m` numbers of a vector that is stored with root number i of a set or with its inverse: the tables are of the other of the two.
@@ -203,6 +197,6 @@ pub fn correlate(
         (recovered_inverse p i (transform_size_of p i) stored.now) m }
 {
     send_front(p, i, tables, x, n);
-    multiply(x, stored, p.q, montgomery::negated_inverse(p.q));
+    multiply(x, stored, Reducer::new(p.q));
     recover_front(p, i, tables, x, scaled_inverse_of(p, i), m);
 }

@@ -34,12 +34,11 @@ part_of start end whole h k =
       entry = λ i l. get_or-take (end - start) (drop start whole) i 0 l ∙ get_or-drop start whole i 0;
     }
 
-module _ {q k : ℕ} {tables from to : List ℕ} (ready : RowReady q k tables from to) where
+module _ {q : ℕ} {tables from to : List ℕ} (ready : RowReady q tables from to) where
   -- the columns may begin
-  pub columns_ready : {roots columns : List ℕ} → PartOf 256 8 tables roots → length columns ≡ 256 → SixteenReady q k roots from columns
+  pub columns_ready : {roots columns : List ℕ} → PartOf 256 8 tables roots → length columns ≡ 256 → SixteenReady q roots from columns
   columns_ready part size =
       record {
-        modulus = ready.modulus;
         roots_size = part.length_is;
         roots_below = record { each = λ i h. rw (part.entry i h) (ready.tables_below.each (256 + i) (omega arith)) };
         from_size = ready.from_size;
@@ -49,10 +48,9 @@ module _ {q k : ℕ} {tables from to : List ℕ} (ready : RowReady q k tables fr
 
   -- the twist may begin
   pub twist_ready : {powers exchanged twisted : List ℕ} → PartOf 0 256 tables powers → length exchanged ≡ 256 → length twisted ≡ 256
-      → MultiplyReady q k powers exchanged twisted
+      → MultiplyReady q powers exchanged twisted
   twist_ready part from_size to_size =
       record {
-        modulus = ready.modulus;
         by_size = part.length_is;
         by_below = record { each = λ i h. rw (part.entry i h) (ready.tables_below.each (0 + i) (omega arith)) };
         from_size = from_size;
@@ -61,10 +59,9 @@ module _ {q k : ℕ} {tables from to : List ℕ} (ready : RowReady q k tables fr
 
   -- the rows may begin
   pub rows_ready : {roots powers exchanged twisted : List ℕ} → PartOf 256 8 tables roots → length twisted ≡ 256 → Multiplied q powers exchanged twisted
-      → SixteenReady q k roots twisted to
+      → SixteenReady q roots twisted to
   rows_ready part size multiplied =
       record {
-        modulus = ready.modulus;
         roots_size = part.length_is;
         roots_below = record { each = λ i h. rw (part.entry i h) (ready.tables_below.each (256 + i) (omega arith)) };
         from_size = size;

@@ -5,12 +5,11 @@ use Rattle.std.specs.Prelude.{◌≡◌, List, ℕ, ◌*◌, ◌%◌, ◌<◌, l
 use Rattle.maths.specs.Vector.{at, AllBelow}
 use Rattle.maths.specs.Congruence.{Mod}
 use Rattle.maths.specs.Transform.{transform_at}
-use Rattle.montgomery.specs.Scaled.{unscale, Modulus}
+use Rattle.montgomery.specs.Scaled.{unscale}
 use Rattle.ntt_tables.specs.Tables.{RowTables}
 
 -- 256 numbers below 2 · q, and the 264 scaled powers of a row
-pub record RowReady (q k : ℕ) (tables from to : List ℕ) : Type 0 where
-  pub modulus : Modulus q k
+pub record RowReady (q : ℕ) (tables from to : List ℕ) : Type 0 where
   pub tables_size : length tables ≡ 264
   pub tables_below : AllBelow q 264 tables
   pub from_size : length from ≡ 256
@@ -23,8 +22,7 @@ pub record Row (q : ℕ) (tables from to : List ℕ) : Type 0 where
   pub below : AllBelow (32 * q) 256 to
 
 -- 256 numbers and 256 residues
-pub record MultiplyReady (q k : ℕ) (by from to : List ℕ) : Type 0 where
-  pub modulus : Modulus q k
+pub record MultiplyReady (q : ℕ) (by from to : List ℕ) : Type 0 where
   pub by_size : length by ≡ 256
   pub by_below : AllBelow q 256 by
   pub from_size : length from ≡ 256
@@ -36,8 +34,7 @@ pub record Multiplied (q : ℕ) (by from to : List ℕ) : Type 0 where
   pub below : AllBelow (2 * q) 256 to
 
 -- a row of 256 numbers of 32 bits, the powers of its twist, those of the row, and the factor at the end
-pub record ForwardReady (q k by : ℕ) (twist tables x : List ℕ) : Type 0 where
-  pub modulus : Modulus q k
+pub record ForwardReady (q by : ℕ) (twist tables x : List ℕ) : Type 0 where
   pub by_below : by < q
   pub twist_size : length twist ≡ 256
   pub twist_below : AllBelow q 256 twist
@@ -51,8 +48,7 @@ pub record ForwardRow (q by : ℕ) (twist tables old new : List ℕ) : Type 0 wh
       → at new c ≡ transform_at 256 v (λ j. at old j * unscale q (at twist j)) c * unscale q by % q
 
 -- a row of 256 numbers below 2 · q, the powers of its twist and those of the row
-pub record InverseReady (q k : ℕ) (twist tables x : List ℕ) : Type 0 where
-  pub modulus : Modulus q k
+pub record InverseReady (q : ℕ) (twist tables x : List ℕ) : Type 0 where
   pub twist_size : length twist ≡ 256
   pub twist_below : AllBelow q 256 twist
   pub tables_size : length tables ≡ 264

@@ -14,7 +14,7 @@ use Rattle.maths.specs.Transform.{transform_at}
 use Rattle.maths.specs.Butterfly.{Butterfly}
 use Rattle.maths.proofs.Fourfold.{sixteen_values}
 use Rattle.calls.proofs.Written.{last_or_before}
-use Rattle.montgomery.specs.Scaled.{unscale}
+use Rattle.montgomery.specs.Scaled.{unscale, Odd}
 use Rattle.ntt_butterflies.specs.Lazy.{ButterflyReady, LazyButterfly}
 use Rattle.ntt_steps.specs.Steps.{StepReady, PartValue, Part, Parts, Quarters, SixteenReady, Roots, Sixteen}
 use Rattle.ntt_steps.proofs.FourWritten.{FourWritten}
@@ -46,9 +46,9 @@ four_below limit start size to zeroth first second third i h =
       ]
     ]
 
-module _ {q k lift : ℕ} {roots from to : List ℕ} (ready : StepReady q k lift roots from to) where
+module _ {q lift : ℕ} {roots from to : List ℕ} (ready : StepReady q lift roots from to) where
   -- the numbers at the places j, 64 + j, 128 + j and 192 + j go into a butterfly
-  pub places_ready : (j : ℕ) → j < 64 → ButterflyReady q k lift (at from j) (at from (64 + j)) (at from (128 + j)) (at from (192 + j))
+  pub places_ready : (j : ℕ) → j < 64 → ButterflyReady q lift (at from j) (at from (64 + j)) (at from (128 + j)) (at from (192 + j))
   places_ready j h =
       let below = ready.from_below.each in
       record {
@@ -108,8 +108,8 @@ part_stays q roots from p i n to new h l same value =
     ) value
 
 -- the next part may begin
-pub parts_next : {q k lift : ℕ} {roots from old : List ℕ} {n : ℕ} {to : List ℕ} → StepReady q k lift roots from old → PartsDone q lift roots from old n to
-    → StepReady q k lift roots from to
+pub parts_next : {q lift : ℕ} {roots from old : List ℕ} {n : ℕ} {to : List ℕ} → StepReady q lift roots from old → PartsDone q lift roots from old n to
+    → StepReady q lift roots from to
 parts_next ready t =
     record {
       lifted = ready.lifted;
@@ -190,14 +190,13 @@ halves some narrow wide =
     }
 
 -- the first half may begin
-pub narrow_ready : {q k : ℕ} {roots from to half : List ℕ} → SixteenReady q k roots from to → length half ≡ 256 → StepReady q k (2 * q) roots from half
-narrow_ready {q} ready size =
+pub narrow_ready : {q : ℕ} {roots from to half : List ℕ} → Odd q → SixteenReady q roots from to → length half ≡ 256 → StepReady q (2 * q) roots from half
+narrow_ready {q} odd ready size =
     record {
       lifted = record {
-        modulus = ready.modulus;
         multiple = mul-mod_left 2 q;
         two_q = omega arith;
-        room = omega (arith, ready.modulus.modulus.small);
+        room = omega (arith, odd.small);
       };
       roots_size = ready.roots_size;
       roots_below = ready.roots_below;
@@ -207,15 +206,14 @@ narrow_ready {q} ready size =
     }
 
 -- and the second
-pub wide_ready : {q k : ℕ} {roots from to half : List ℕ} → SixteenReady q k roots from to → length half ≡ 256 → Parts q (2 * q) roots from half
-    → StepReady q k (8 * q) roots half to
-wide_ready {q} ready size narrow =
+pub wide_ready : {q : ℕ} {roots from to half : List ℕ} → Odd q → SixteenReady q roots from to → length half ≡ 256 → Parts q (2 * q) roots from half
+    → StepReady q (8 * q) roots half to
+wide_ready {q} odd ready size narrow =
     record {
       lifted = record {
-        modulus = ready.modulus;
         multiple = mul-mod_left 8 q;
         two_q = omega arith;
-        room = omega (arith, ready.modulus.modulus.small);
+        room = omega (arith, odd.small);
       };
       roots_size = ready.roots_size;
       roots_below = ready.roots_below;

@@ -5,7 +5,7 @@ use Rattle.maths.specs.Vector.{at, AllBelow}
 use Rattle.maths.specs.Congruence.{Mod}
 use Rattle.maths.specs.Transform.{transform_at}
 use Rattle.maths.specs.Butterfly.{Butterfly}
-use Rattle.montgomery.specs.Scaled.{unscale, Modulus}
+use Rattle.montgomery.specs.Scaled.{unscale}
 use Rattle.ntt_butterflies.specs.Lazy.{Lift}
 
 -- to with four numbers written at place, place + apart, place + 2 · apart and place + 3 · apart
@@ -13,8 +13,8 @@ unfoldable pub written_apart : List ℕ → ℕ → ℕ → ℕ → ℕ → ℕ 
 written_apart to place apart z₀ z₁ z₂ z₃ = set (set (set (set to place z₀) (place + apart) z₁) (place + 2 * apart) z₂) (place + 3 * apart) z₃
 
 -- 256 numbers below lift, and 8 scaled powers
-pub record StepReady (q k lift : ℕ) (roots from to : List ℕ) : Type 0 where
-  pub lifted : Lift q k lift
+pub record StepReady (q lift : ℕ) (roots from to : List ℕ) : Type 0 where
+  pub lifted : Lift q lift
   pub roots_size : length roots ≡ 8
   pub roots_below : AllBelow q 8 roots
   pub from_size : length from ≡ 256
@@ -47,8 +47,7 @@ pub record Quarters (q lift : ℕ) (roots from to : List ℕ) : Type 0 where
   pub below : AllBelow (4 * lift) 256 to
 
 -- 256 numbers below 2 · q, and 8 scaled powers
-pub record SixteenReady (q k : ℕ) (roots from to : List ℕ) : Type 0 where
-  pub modulus : Modulus q k
+pub record SixteenReady (q : ℕ) (roots from to : List ℕ) : Type 0 where
   pub roots_size : length roots ≡ 8
   pub roots_below : AllBelow q 8 roots
   pub from_size : length from ≡ 256

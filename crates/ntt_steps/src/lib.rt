@@ -6,6 +6,7 @@
 ghost use Rattle.std.specs.Prelude.{◌≡◌, ◌+◌, ◌*◌, ◌<◌, length};
 ghost use Rattle.ntt_steps.specs.Steps.{written_apart, StepReady, Part, Parts, Quarters, SixteenReady, Sixteen, ExchangedRow, Exchanged};
 
+use montgomery::Reducer;
 use ntt_butterflies::Values;
 
 // Writes what a butterfly gives: the first value at `place`, each of the others `apart` places after the one before.
@@ -20,9 +21,16 @@ fn write_apart(to: &mut [u32], place: usize, apart: usize, z: Values)
 }
 
 // Butterflies of the numbers 16 · part + i, 64, 128 and 192 places on, into the block of 64 that has the number `part`.
-fn narrow_part(to: &mut [u32], from: &[u32], roots: &[u32], part: usize, lift: u32, q: u32, k: u32)
-    requires { StepReady q k lift roots.now from.now to.old × (part < 4) }
-    ensures { Part q lift roots.now from.now part to.old to.new }
+fn narrow_part(
+    to: &mut [u32],
+    from: &[u32],
+    roots: &[u32],
+    part: usize,
+    lift: u32,
+    reducer: Reducer,
+)
+    requires { StepReady reducer.q lift roots.now from.now to.old × (part < 4) }
+    ensures { Part reducer.q lift roots.now from.now part to.old to.new }
 {
     let start = 16 * part;
     let out = 64 * part;
@@ -40,27 +48,26 @@ fn narrow_part(to: &mut [u32], from: &[u32], roots: &[u32], part: usize, lift: u
             u,
             v,
             lift,
-            q,
-            k,
+            reducer,
         );
         write_apart(to, out + i, 16, z);
     }
 }
 
 // The first half of 16 transforms of 16 numbers, which are 16 places apart.
-fn narrow(to: &mut [u32], from: &[u32], roots: &[u32], lift: u32, q: u32, k: u32)
-    requires { StepReady q k lift roots.now from.now to.old }
-    ensures { Parts q lift roots.now from.now to.new }
+fn narrow(to: &mut [u32], from: &[u32], roots: &[u32], lift: u32, reducer: Reducer)
+    requires { StepReady reducer.q lift roots.now from.now to.old }
+    ensures { Parts reducer.q lift roots.now from.now to.new }
 {
     for part in 0..4 {
-        narrow_part(to, from, roots, part, lift, q, k);
+        narrow_part(to, from, roots, part, lift, reducer);
     }
 }
 
 // The second half: butterflies of the numbers i, 64, 128 and 192 places on, into the same places.
-fn wide(to: &mut [u32], from: &[u32], roots: &[u32], lift: u32, q: u32, k: u32)
-    requires { StepReady q k lift roots.now from.now to.old }
-    ensures { Quarters q lift roots.now from.now to.new }
+fn wide(to: &mut [u32], from: &[u32], roots: &[u32], lift: u32, reducer: Reducer)
+    requires { StepReady reducer.q lift roots.now from.now to.old }
+    ensures { Quarters reducer.q lift roots.now from.now to.new }
 {
     let u = roots[4];
     for i in 0..64 {
@@ -71,21 +78,20 @@ fn wide(to: &mut [u32], from: &[u32], roots: &[u32], lift: u32, q: u32, k: u32)
             from[192 + i],
             u,
             lift,
-            q,
-            k,
+            reducer,
         );
         write_apart(to, i, 64, z);
     }
 }
 
 // 16 transforms of 16 numbers, which are 16 places apart.
-pub fn sixteen(to: &mut [u32], from: &[u32], roots: &[u32], q: u32, k: u32)
-    requires { SixteenReady q k roots.now from.now to.old }
-    ensures { Sixteen q roots.now from.now to.new }
+pub fn sixteen(to: &mut [u32], from: &[u32], roots: &[u32], reducer: Reducer)
+    requires { SixteenReady reducer.q roots.now from.now to.old }
+    ensures { Sixteen reducer.q roots.now from.now to.new }
 {
     let mut half = [0u32; 256];
-    narrow(&mut half, from, roots, 2 * q, q, k);
-    wide(to, &half, roots, 8 * q, q, k);
+    narrow(&mut half, from, roots, 2 * reducer.q, reducer);
+    wide(to, &half, roots, 8 * reducer.q, reducer);
 }
 
 // Row `a` of 16 of the exchange: numbers that are 16 places apart come together.

@@ -3,7 +3,7 @@
 use mathlib.Core.Path.{◌≡◌, refl, sym, ◌∙◌}
 use mathlib.Core.Logic.{inl, inr}
 use mathlib.Core.List.{List}
-use Prim.Native.Nat.{ℕ, ◌+◌, ◌*◌, ◌/◌, ◌%◌, ◌≤◌, ◌<◌}
+use Prim.Native.Nat.{ℕ, ◌+◌, ◌*◌, ◌/◌, ◌%◌, ◌^◌, ◌≤◌, ◌<◌}
 use native.Mathlib.Nat.{mod-lt, mod-eq_of_lt, mul_comm, eq-or-lt_of_le, le_of_suc-le-suc, mul-le-mul, mul-lt-mul_of_pos_left}
 use native.Mathlib.Numerals.{add-one}
 use native.Mathlib.Omega.{arith}
@@ -12,23 +12,23 @@ use lib.Seq.{get_or-set_same, get_or-set_other}
 use Rattle.maths.specs.Vector.{at}
 use Rattle.maths.specs.Congruence.{Mod}
 use Rattle.maths.proofs.Congruence.{mod_eq, mod_trans, mod_remainder}
-use Rattle.montgomery.specs.Scaled.{unscale}
+use Rattle.montgomery.specs.Scaled.{unscale, Odd}
 use Rattle.montgomery.proofs.Laws.{unscale_cong, unscale_remainder, unscale_mul_left, unscale_twice_one}
-use Rattle.ntt_tables.specs.Steps.{Scaling, Filled}
+use Rattle.ntt_tables.specs.Steps.{Filled}
 
 -- the scaled form of 2^32 is a residue
-pub scale_below : {q k by : ℕ} → Scaling q k by → by < q
-scale_below s = rw s.scale (mod-lt _ (omega (arith, s.modulus.modulus.some)))
+pub scale_below : {q by : ℕ} → Odd q → by ≡ 2 ^ 64 % q → by < q
+scale_below odd scale = rw scale (mod-lt _ (omega (arith, odd.some)))
 
 -- a residue that a product with the scaled form of 2^32 makes is what that product is the scaled form of
-pub scaled_back : {q k by r x : ℕ} → Scaling q k by → x < q → r ≡ x * unscale q by % q → (unscale q r ≡ x) × (r < q)
-scaled_back {q} {by = by} {r} {x} s h e =
-    let some : 0 < q = omega (arith, s.modulus.modulus.some) in
+pub scaled_back : {q by r x : ℕ} → Odd q → by ≡ 2 ^ 64 % q → x < q → r ≡ x * unscale q by % q → (unscale q r ≡ x) × (r < q)
+scaled_back {q} {by = by} {r} {x} odd scale h e =
+    let some : 0 < q = omega (arith, odd.some) in
     let same : Mod q r (unscale q by * x) = mod_trans (mod_eq e) (mod_trans (mod_remainder q _) (mod_eq (mul_comm x (unscale q by)))) in
     let back : Mod q (unscale q (unscale q by * x)) x =
     mod_trans (unscale_mul_left q (unscale q by) x)
     (mod_trans (mod_eq (mul_comm (unscale q by) (unscale q x)))
-    (rw (← s.scale) at (unscale_twice_one s.modulus.modulus x))) in
+    (rw (← scale) at (unscale_twice_one odd x))) in
     (unscale_cong same ∙ sym (unscale_remainder q _) ∙ back.same ∙ mod-eq_of_lt h, rw e (mod-lt _ some))
 
 -- a loop that has written the first i of n powers, each out of a place that Place relates to its number

@@ -1,13 +1,8 @@
 -- The steps by which the tables of a transform are made in place.
 -- Assumes nothing.
-use Rattle.std.specs.Prelude.{◌≡◌, List, ℕ, ◌+◌, ◌*◌, ◌%◌, ◌^◌, ◌≤◌, ◌<◌, length}
+use Rattle.std.specs.Prelude.{◌≡◌, List, ℕ, ◌+◌, ◌*◌, ◌≤◌, ◌<◌, length}
 use Rattle.maths.specs.Vector.{at}
-use Rattle.montgomery.specs.Scaled.{unscale, Modulus}
-
--- a modulus with its negated inverse, and the scaled form of 2^32
-pub record Scaling (q k by : ℕ) : Type 0 where
-  pub modulus : Modulus q k
-  pub scale : by ≡ 2 ^ 64 % q
+use Rattle.montgomery.specs.Scaled.{unscale}
 
 -- place start + i of new, for the first n, has the scaled form of what stands at the place that i names; all other places are as in old
 pub record Filled (q start n : ℕ) (place : ℕ → ℕ) (old new : List ℕ) : Type 0 where

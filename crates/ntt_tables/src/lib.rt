@@ -2,19 +2,21 @@
 // the powers of the root one after the other.
 #![tactic(auto)]
 
-ghost use Rattle.std.specs.Prelude.{◌≡◌, ℕ, ◌+◌, ◌*◌, ◌/◌, ◌%◌, ◌≤◌, ◌<◌, length};
+ghost use Rattle.std.specs.Prelude.{◌≡◌, ℕ, ◌+◌, ◌*◌, ◌/◌, ◌%◌, ◌^◌, ◌≤◌, ◌<◌, length};
 ghost use Rattle.maths.specs.Vector.{AllBelow};
 ghost use Rattle.montgomery.specs.Scaled.{unscale, Odd};
 ghost use Rattle.ntt_tables.specs.Tables.{tables_length, Powers, Ready, Tables};
 ghost use Rattle.ntt_tables.specs.Inverted.{InvertedTable};
-ghost use Rattle.ntt_tables.specs.Steps.{Scaling, Filled, TwistedRow, Twisted};
+ghost use Rattle.ntt_tables.specs.Steps.{Filled, TwistedRow, Twisted};
+
+use montgomery::Reducer;
 
 // The scaled form of a residue; `by` is the scaled form of 2^32.
-fn scaled(x: u32, by: u32, q: u32, k: u32) -> u32
-    requires { Scaling q k by × (x < q) }
-    ensures { (unscale q result ≡ x) × (result < q) }
+fn scaled(x: u32, by: u32, reducer: Reducer) -> u32
+    requires { (by ≡ 2 ^ 64 % reducer.q) × (x < reducer.q) }
+    ensures { (unscale reducer.q result ≡ x) × (result < reducer.q) }
 {
-    ntt_settle::settle_number(x, by, q, k)
+    ntt_settle::settle_number(x, by, reducer)
 }
 
 // Writes `n` powers from `start` on, in scaled form: power i is the one that stands, before `start`, at the place that `place` gives for i.
@@ -24,17 +26,16 @@ fn fill_powers<F: Fn(usize) -> usize>(
     n: usize,
     place: F,
     by: u32,
-    q: u32,
-    k: u32,
+    reducer: Reducer,
 )
-    requires numbers { Scaling q k by × (start + n ≤ length tables.old) × (start ≤ 8192) × AllBelow q start tables.old }
+    requires numbers { (by ≡ 2 ^ 64 % reducer.q) × (start + n ≤ length tables.old) × (start ≤ 8192) × AllBelow reducer.q start tables.old }
     requires callable { (i : ℕ) → i < n → F.pre place i }
     requires before { (i j : ℕ) → i < n → F.post place i j → j < start }
-    ensures { (from : ℕ → ℕ) → ((i j : ℕ) → i < n → F.post place i j → j ≡ from i) → Filled q start n from tables.old tables.new }
+    ensures { (from : ℕ → ℕ) → ((i j : ℕ) → i < n → F.post place i j → j ≡ from i) → Filled reducer.q start n from tables.old tables.new }
 {
     for i in 0..n {
         let power = tables[place(i)];
-        tables[start + i] = scaled(power, by, q, k);
+        tables[start + i] = scaled(power, by, reducer);
     }
 }
 
@@ -65,7 +66,7 @@ pub fn fill_tables(tables: &mut [u32], rows: usize, q: u32)
     ensures ready { Ready q rows tables.new }
     ensures tables { (w : ℕ) → Powers q rows w tables.old → Tables q rows w tables.new }
 {
-    let k = montgomery::negated_inverse(q);
+    let reducer = Reducer::new(q);
     let by = montgomery::scaled_scale(q);
     let size = rows * 256;
     fill_powers(
@@ -74,11 +75,10 @@ pub fn fill_tables(tables: &mut [u32], rows: usize, q: u32)
         256,
         move |i| rows * (i / 16 * (i % 16)),
         by,
-        q,
-        k,
+        reducer,
     );
-    fill_powers(tables, size + 256, 8, move |i| 16 * rows * i, by, q, k);
-    fill_powers(tables, size + 264, rows, |i| 256 * i, by, q, k);
+    fill_powers(tables, size + 256, 8, move |i| 16 * rows * i, by, reducer);
+    fill_powers(tables, size + 264, rows, |i| 256 * i, by, reducer);
     twist_rows(tables, rows);
 }
 

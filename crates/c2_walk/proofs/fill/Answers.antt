@@ -13,12 +13,12 @@ kept : (c : At-loop-j) → length c.loop-j.c2 ≡ length c.args.c2.now
 kept c =
     let args = c.args in
     walked_length c.loop-j.invariant
-    ∙ finished_length args.q args.by args.half args.count (length args.c2.now) args.rows.now args.message.now
+    ∙ finished_length args.reducer.q args.by args.half args.count (length args.c2.now) args.rows.now args.message.now
 
 pub loop-j-init : goal.loop-j-init
 loop-j-init c =
     let args = c.args in
-    walked_none (sym (finished_length args.q args.by args.half args.count (length args.c2.now) args.rows.now args.message.now))
+    walked_none (sym (finished_length args.reducer.q args.by args.half args.count (length args.c2.now) args.rows.now args.message.now))
 
 pub finish_place-requires : goal.finish_place-requires
 finish_place-requires c =

@@ -6,4 +6,4 @@ use Rattle.c2_walk.specs.Finished.{finished}
 use Rattle.c2_walk.proofs.fill.Given as goal
 
 abbrev pub invariant-loop-j : goal.invariant-loop-j
-invariant-loop-j l = Walked (finished l.q l.by l.half l.count (length l.initial.c2) l.rows l.message) l.initial.c2 l.j l.c2
+invariant-loop-j l = Walked (finished l.reducer.q l.by l.half l.count (length l.initial.c2) l.rows l.message) l.initial.c2 l.j l.c2

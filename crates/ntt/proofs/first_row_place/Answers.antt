@@ -10,4 +10,4 @@ pub returns : goal.returns
 unfolding first_row_at
 returns c =
     let args = c.args in
-    c.settle_number.ensures ∙ ap (λ (y : ℕ). y * unscale args.q args.by % args.q) c.column_total-total.ensures
+    c.settle_number.ensures ∙ ap (λ (y : ℕ). y * unscale args.reducer.q args.by % args.reducer.q) c.column_total-total.ensures

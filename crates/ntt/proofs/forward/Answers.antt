@@ -9,4 +9,4 @@ pub returns : goal.returns
 returns c w made =
     let pre = c.requires in
     sent pre.0 made c.args.m pre.1 c.scaled_scale-by.ensures pre.2 (c.columns.auto.x ∙ pre.2)
-    (rw (rest c.args.tables.now (c.args.rows * 256 + 264)) at c.columns.ensures) c.turn_rows.ensures
+    (rw (c.new-reducer.ensures, rest c.args.tables.now (c.args.rows * 256 + 264)) at c.columns.ensures) (rw c.new-reducer.ensures at c.turn_rows.ensures)

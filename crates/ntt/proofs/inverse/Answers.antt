@@ -13,9 +13,9 @@ use Rattle.ntt.proofs.inverse.Goals as goal
 pub columns-requires : goal.columns-requires
 columns-requires c =
     let pre = c.requires in
-    rw (rest c.args.tables.now (c.args.rows * 256 + 264))
-    (columns_ready pre.0 c.negated_inverse-k.ensures (c.inverse_rows.auto.x ∙ pre.2) (omega arith) pre.1
-    (inverse_below c.inverse_rows.ensures) (omega (arith, pre.0.modulus.small)))
+    rw (c.new-reducer.ensures, rest c.args.tables.now (c.args.rows * 256 + 264))
+    (columns_ready pre.0 (c.inverse_rows.auto.x ∙ pre.2) (omega arith) pre.1
+    (inverse_below (rw c.new-reducer.ensures at c.inverse_rows.ensures)) (omega (arith, pre.0.modulus.small)))
 
 pub returns : goal.returns
 returns c w e made scale =
@@ -24,8 +24,7 @@ returns c w e made scale =
     let whole : n - 0 ≡ n = omega arith in
     let fits : n ≤ length c.columns.new.x =
     omega (arith, c.columns.auto.x, c.inverse_rows.auto.x, pre.2, mul-le-mul_right 256 pre.1) in
-    let settled = front_changed n c.columns.new.x c.settle.new.x _ (λ y. y * unscale c.args.q
-    c.args.by % c.args.q)
-    fits (rw whole at c.settle.ensures) in
-    recovered pre.0 made e scale c.inverse_rows.ensures c.args.m pre.1
-    (rw (rest c.args.tables.now (c.args.rows * 256 + 264)) at c.columns.ensures) settled (ap length settled ∙ tabulate_length n _)
+    let settled = front_changed n c.columns.new.x c.settle.new.x _ (λ y. y * unscale c.args.q c.args.by % c.args.q)
+    fits (rw (c.new-reducer.ensures, whole) at c.settle.ensures) in
+    recovered pre.0 made e scale (rw c.new-reducer.ensures at c.inverse_rows.ensures) c.args.m pre.1
+    (rw (c.new-reducer.ensures, rest c.args.tables.now (c.args.rows * 256 + 264)) at c.columns.ensures) settled (ap length settled ∙ tabulate_length n _)

@@ -5,4 +5,4 @@ use Rattle.ntt.proofs.Rows.{RowsDone}
 use Rattle.ntt.proofs.turn_rows.Given as goal
 
 abbrev pub invariant-loop-r : goal.invariant-loop-r
-invariant-loop-r l = RowsDone (RowAt l.q l.direction l.rows l.tables) l.rows l.initial.x l.r l.x
+invariant-loop-r l = RowsDone (RowAt l.reducer.q l.direction l.rows l.tables) l.rows l.initial.x l.r l.x

@@ -10,6 +10,6 @@ returns c =
     let pre = c.requires in
     let args = c.args in
     let made = c.product.ensures in (
-      difference_product args.q args.a args.b args.lift (unscale args.q args.w) (some_modulus pre.0) pre.2 (omega arith) made.0,
+      difference_product args.reducer.q args.a args.b args.lift (unscale args.reducer.q args.w) (some_modulus args.reducer.modulus) pre.1 (omega arith) made.0,
       made.1,
     )

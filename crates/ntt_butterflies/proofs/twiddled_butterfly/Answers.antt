@@ -7,12 +7,12 @@ use Rattle.ntt_butterflies.proofs.twiddled_butterfly.Goals as goal
 pub turned_difference-requires : goal.turned_difference-requires
 turned_difference-requires c =
     let pre = c.requires in
-    (pre.0.lifted.modulus, pre.3, twice _ _ pre.0.lifted.multiple, omega arith, omega arith, omega arith)
+    (pre.3, twice _ _ pre.0.lifted.multiple, omega arith, omega arith, omega arith)
 
 pub turned_difference-requires-2 : goal.turned_difference-requires-2
 turned_difference-requires-2 c =
     let pre = c.requires in
-    (pre.0.lifted.modulus, pre.3, twice _ _ pre.0.lifted.multiple, omega arith, omega arith, omega arith)
+    (pre.3, twice _ _ pre.0.lifted.multiple, omega arith, omega arith, omega arith)
 
 pub returns : goal.returns
 returns c =

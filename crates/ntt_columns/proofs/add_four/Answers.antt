@@ -9,8 +9,8 @@ step-requires c =
     let args = c.args in
     let j = c.loop-j.j in
     let below = four_below args.block.now j args.a args.b args.c args.d c.requires.numbers c.requires.factors
-    c.loop-j-test.true (omega (arith, c.requires.modulus.modulus.some)) in
-    (c.requires.modulus, rw c.four_products.ensures below)
+    c.loop-j-test.true (omega (arith, c.args.reducer.modulus.modulus.some)) in
+    rw c.four_products.ensures below
 
 pub loop-j-preserved : goal.loop-j-preserved
 loop-j-preserved c =

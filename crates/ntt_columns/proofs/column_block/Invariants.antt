@@ -8,4 +8,4 @@ use Rattle.ntt_columns.proofs.column_block.Given as goal
 
 abbrev pub invariant-loop-r : goal.invariant-loop-r
 invariant-loop-r l =
-    (l.r ≤ l.out) × (length l.sums ≡ 64) × Storing l.q l.m l.rows l.b l.factors l.initial.x l.r l.x
+    (l.r ≤ l.out) × (length l.sums ≡ 64) × Storing l.reducer.q l.m l.rows l.b l.factors l.initial.x l.r l.x

@@ -16,12 +16,13 @@ add_four-requires c =
     let turn = c.loop-n in
     let from = 64 * turn.n in
     rw (region_part c.args.block.now from 256 (from + 256) refl)
-    (add_ready c.requires turn.invariant c.loop-n-test.true c.advance-second.ensures.1
+    (add_ready c.requires turn.invariant c.args.reducer.modulus.modulus c.loop-n-test.true c.advance-second.ensures.1
     c.advance-third.ensures.1 c.advance-fourth.ensures.1)
 
 -- the sums of four rows more
 four_more : (c : After-advance-place)
-    → let args = c.args in Summing args.q args.m args.r args.rows args.factors.now args.block.now (c.loop-n.n + 4) c.advance-place.result c.add_four.new.sums
+    → let args = c.args in
+    Summing args.reducer.q args.m args.r args.rows args.factors.now args.block.now (c.loop-n.n + 4) c.advance-place.result c.add_four.new.sums
 four_more c =
     let turn = c.loop-n in
     let from = 64 * turn.n in
@@ -33,8 +34,8 @@ pub loop-n-preserved : goal.loop-n-preserved
 loop-n-preserved c = four_more (goal.at.loop-n-preserved c).After-advance-place
 
 pub returns : goal.returns
-returns c = summing_all c.requires c.loop-n.invariant c.loop-n-test.false
+returns c = summing_all c.requires c.loop-n.invariant c.args.reducer.modulus.modulus c.loop-n-test.false
 
 -- the last turn, after which another step would reach m
 pub returns-2 : goal.returns-2
-returns-2 c = summing_all c.requires (four_more (goal.at.returns-2 c).After-advance-place) (omega arith)
+returns-2 c = summing_all c.requires (four_more (goal.at.returns-2 c).After-advance-place) c.args.reducer.modulus.modulus (omega arith)

@@ -5,7 +5,7 @@ use Rattle.ntt_columns.proofs.Summing.{Summing}
 use Rattle.ntt_columns.proofs.column_sums.Given as goal
 
 abbrev pub invariant-loop-n : goal.invariant-loop-n
-invariant-loop-n l = Summing l.q l.m l.r l.rows l.factors l.block l.n l.place l.sums
+invariant-loop-n l = Summing l.reducer.q l.m l.r l.rows l.factors l.block l.n l.place l.sums
 
 abbrev pub decreases-loop-n : goal.decreases-loop-n
 decreases-loop-n l = l.m - l.n

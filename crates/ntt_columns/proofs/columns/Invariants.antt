@@ -5,4 +5,4 @@ use Rattle.ntt_columns.proofs.Blocks.{ColumnsDone}
 use Rattle.ntt_columns.proofs.columns.Given as goal
 
 abbrev pub invariant-loop-b : goal.invariant-loop-b
-invariant-loop-b l = ColumnsDone l.q l.m l.out l.rows l.factors l.initial.x l.b l.x × ZerosFrom l.m l.block
+invariant-loop-b l = ColumnsDone l.reducer.q l.m l.out l.rows l.factors l.initial.x l.b l.x × ZerosFrom l.m l.block

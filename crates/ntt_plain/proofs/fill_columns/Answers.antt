@@ -26,9 +26,6 @@ strided_sum-sum-requires c =
     let pre = c.requires in
     column_summable pre.0 _ c.loop-i.i pre.1 (omega (arith, c.loop-i.invariant.kept, c.loop-i-test.true, pre.2))
 
-pub long_step-requires : goal.long_step-requires
-long_step-requires c = let pre = c.requires in (pre.3, pre.4)
-
 pub loop-i-preserved : goal.loop-i-preserved
 loop-i-preserved c =
     let turn = c.loop-i in

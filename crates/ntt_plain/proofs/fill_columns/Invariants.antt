@@ -6,4 +6,4 @@ use Rattle.ntt_plain.proofs.Lazily.{LazilyWritten}
 use Rattle.ntt_plain.proofs.fill_columns.Given as goal
 
 abbrev pub invariant-loop-i : goal.invariant-loop-i
-invariant-loop-i l = LazilyWritten l.q (columns l.q l.row l.m (length l.initial.to) l.powers l.x) l.initial.to l.i l.to
+invariant-loop-i l = LazilyWritten l.reducer.q (columns l.reducer.q l.row l.m (length l.initial.to) l.powers l.x) l.initial.to l.i l.to

@@ -33,9 +33,6 @@ strided_sum-sum-requires c =
     let pre = c.requires in
     row_summable pre.0 _ c.loop-i.i pre.1 pre.2 (omega (arith, c.loop-i.invariant.kept, c.loop-i-test.true, pre.3))
 
-pub long_step-requires : goal.long_step-requires
-long_step-requires c = let pre = c.requires in (pre.4, pre.5)
-
 pub loop-i-preserved : goal.loop-i-preserved
 loop-i-preserved c =
     let turn = c.loop-i in

@@ -17,17 +17,17 @@ twist_size c = c.twist.ensures.kept ∙ twisted_length _ _ _ _ ∙ columns_size 
 
 pub twist-requires : goal.twist-requires
 twist-requires c =
-    (plain_of c.requires.0 (le_of_eq (columns_size (goal.at.twist-requires c).After-fill_columns)) c.fill_columns.ensures.below, c.negated_inverse-k.ensures)
+    rw c.new-reducer.ensures
+    (plain_of c.requires.0 (le_of_eq (columns_size (goal.at.twist-requires c).After-fill_columns)) (rw c.new-reducer.ensures at c.fill_columns.ensures.below))
 
 pub fill_rows-requires : goal.fill_rows-requires
 fill_rows-requires c =
     let pre = c.requires in
-    let size = twist_size (goal.at.fill_rows-requires c).After-twist in (
-      plain_of pre.0 (le_of_eq size) c.twist.ensures.below,
+    let size = twist_size (goal.at.fill_rows-requires c).After-twist in rw c.new-reducer.ensures (
+      plain_of pre.0 (le_of_eq size) (rw c.new-reducer.ensures at c.twist.ensures.below),
       size ∙ pre.3,
       sym size,
       pre.4 ∙ sym size,
-      c.negated_inverse-k.ensures,
       c.scaled_scale-s.ensures,
     )
 
@@ -36,5 +36,5 @@ returns c w table whole =
     let root : RootPowers c.args.q c.args.row c.args.count w c.args.powers.now =
     record { some_columns = c.requires.0.some_columns; size = c.requires.3; table = table; whole = whole } in
     sent_settled c.requires.0.modulus root c.args.m (length c.args.between.now) c.args.x.now c.requires.2 c.requires.1
-    (c.requires.5 ∙ c.requires.3) c.settling_factor-by.ensures.1 c.fill_columns.ensures c.twist.ensures
-    c.fill_rows.ensures c.settle.ensures
+    (c.requires.5 ∙ c.requires.3) (rw c.new-reducer.ensures at c.settling_factor-by.ensures.1) (rw c.new-reducer.ensures at c.fill_columns.ensures)
+    (rw c.new-reducer.ensures at c.twist.ensures) (rw c.new-reducer.ensures at c.fill_rows.ensures) (rw c.new-reducer.ensures at c.settle.ensures)

@@ -18,16 +18,16 @@ twist_size c = c.twist.ensures.kept ∙ twisted_length _ _ _ _ ∙ rows_size (go
 pub twist-requires : goal.twist-requires
 twist-requires c =
     let pre = c.requires in
-    (plain_of pre.0 (le_of_eq (rows_size (goal.at.twist-requires c).After-fill_rows ∙ sym pre.2)) c.fill_rows.ensures.below, c.negated_inverse-k.ensures)
+    rw c.new-reducer.ensures
+    (plain_of pre.0 (le_of_eq (rows_size (goal.at.twist-requires c).After-fill_rows ∙ sym pre.2)) (rw c.new-reducer.ensures at c.fill_rows.ensures.below))
 
 pub fill_columns-requires : goal.fill_columns-requires
 fill_columns-requires c =
     let pre = c.requires in
-    let size = twist_size (goal.at.fill_columns-requires c).After-twist in (
-      plain_of pre.0 (le_of_eq (size ∙ sym pre.2)) c.twist.ensures.below,
+    let size = twist_size (goal.at.fill_columns-requires c).After-twist in rw c.new-reducer.ensures (
+      plain_of pre.0 (le_of_eq (size ∙ sym pre.2)) (rw c.new-reducer.ensures at c.twist.ensures.below),
       size ∙ pre.1,
       le_trans pre.4 (le_of_eq (sym pre.2)),
-      c.negated_inverse-k.ensures,
       c.scaled_scale-s.ensures,
     )
 
@@ -36,5 +36,5 @@ returns c w m table whole size fits =
     let root : RootPowers c.args.q c.args.row c.args.count w c.args.powers.now =
     record { some_columns = c.requires.0.some_columns; size = c.requires.2 ∙ c.requires.1; table = table; whole = whole } in
     recovered_settled c.requires.0.modulus root m (length c.args.out.now) c.args.x.now fits c.args.e c.requires.1
-    size c.settling_factor-by.ensures.1 c.fill_rows.ensures c.twist.ensures c.fill_columns.ensures
-    c.settle.ensures
+    size (rw c.new-reducer.ensures at c.settling_factor-by.ensures.1) (rw c.new-reducer.ensures at c.fill_rows.ensures)
+    (rw c.new-reducer.ensures at c.twist.ensures) (rw c.new-reducer.ensures at c.fill_columns.ensures) (rw c.new-reducer.ensures at c.settle.ensures)

@@ -4,21 +4,21 @@ use Rattle.ntt_plain.proofs.Lazily.{settling, scale_below}
 use Rattle.ntt_plain.proofs.settling_factor.Goals as goal
 
 pub product-once-requires : goal.product-once-requires
-product-once-requires c = (c.requires.0, scale_below c.requires.0.modulus c.requires.1)
+product-once-requires c = scale_below c.args.reducer.modulus.modulus c.requires
 
 pub product-twice-requires : goal.product-twice-requires
-product-twice-requires c = let pre = c.requires in (pre.0, scale_below pre.0.modulus pre.1)
+product-twice-requires c = scale_below c.args.reducer.modulus.modulus c.requires
 
 pub product-thrice-requires : goal.product-thrice-requires
-product-thrice-requires c = let pre = c.requires in (pre.0, scale_below pre.0.modulus pre.1)
+product-thrice-requires c = scale_below c.args.reducer.modulus.modulus c.requires
 
 pub settle_number-requires : goal.settle_number-requires
-settle_number-requires c = let pre = c.requires in (pre.0, scale_below pre.0.modulus pre.1)
+settle_number-requires c = scale_below c.args.reducer.modulus.modulus c.requires
 
 pub returns : goal.returns
 returns c =
     let once = c.product-once in
     let twice = c.product-twice in
     let thrice = c.product-thrice in
-    settling c.args.e once.result twice.result thrice.result c.requires.0.modulus c.requires.1 once.ensures.0 twice.ensures.0
+    settling c.args.e once.result twice.result thrice.result c.args.reducer.modulus.modulus c.requires once.ensures.0 twice.ensures.0
     thrice.ensures.0 c.settle_number.ensures

@@ -17,7 +17,7 @@ product-requires c =
     let turn = c.loop-i in
     let below : turn.i < length c.args.x.now = omega (arith, turn.invariant.kept, c.loop-i-test.true) in
     let exponent = c.twist_exponent-exponent in
-    (c.requires.1, c.requires.0.factors.each exponent.result (omega (arith, exponent.ensures.1, c.requires.0.size)))
+    c.requires.factors.each exponent.result (omega (arith, exponent.ensures.1, c.requires.size))
 
 pub loop-i-preserved : goal.loop-i-preserved
 loop-i-preserved c =

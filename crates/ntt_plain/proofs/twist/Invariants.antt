@@ -5,4 +5,4 @@ use Rattle.ntt_plain.proofs.Lazily.{LazilyWritten}
 use Rattle.ntt_plain.proofs.twist.Given as goal
 
 abbrev pub invariant-loop-i : goal.invariant-loop-i
-invariant-loop-i l = LazilyWritten l.q (twisted l.q l.row l.powers l.initial.x) l.initial.x l.i l.x
+invariant-loop-i l = LazilyWritten l.reducer.q (twisted l.reducer.q l.row l.powers l.initial.x) l.initial.x l.i l.x

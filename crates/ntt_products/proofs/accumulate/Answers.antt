@@ -16,20 +16,20 @@ turn_below : (c : In-loop-j) → c.loop-j.j < length c.args.total.now
 turn_below c = omega (arith, c.loop-j.invariant.kept_length, c.loop-j-test.true)
 
 turn_inside : (c : In-loop-j) → c.loop-j.j < length c.args.x.now
-turn_inside c = omega (arith, turn_below c, c.requires.1)
+turn_inside c = omega (arith, turn_below c, c.requires.0)
 
 pub loop-j-init : goal.loop-j-init
 loop-j-init c = filled_none (accumulated_length _ _ _ _) (omega arith)
 
 pub settle_number-product-requires : goal.settle_number-product-requires
 settle_number-product-requires c =
-    (c.requires.0, c.requires.4.each c.loop-j.j (turn_below (goal.at.settle_number-product-requires c).In-loop-j))
+    c.requires.3.each c.loop-j.j (turn_below (goal.at.settle_number-product-requires c).In-loop-j)
 
 pub add-requires : goal.add-requires
 add-requires c =
     let pre = c.requires in
-    let residue : at c.args.total.now c.loop-j.j < c.args.q = pre.3.each c.loop-j.j (turn_below (goal.at.add-requires c).In-loop-j) in
-    let modulus = pre.0.modulus in
+    let residue : at c.args.total.now c.loop-j.j < c.args.reducer.q = pre.2.each c.loop-j.j (turn_below (goal.at.add-requires c).In-loop-j) in
+    let modulus = c.args.reducer.modulus.modulus in
     (rw (ahead c.loop-j.invariant) residue, rw c.settle_number-product.ensures (mod-lt _ (omega (arith, modulus.some))), modulus.small)
 
 pub loop-j-preserved : goal.loop-j-preserved
@@ -39,7 +39,7 @@ loop-j-preserved c =
     filled_more 0 this.invariant (turn_below (goal.at.loop-j-preserved c).In-loop-j) (sym (zero-add this.j))
     (c.add.ensures
     ∙ rw (ahead this.invariant, c.settle_number-product.ensures)
-    (sym (accumulated_scaled args.q args.total.now args.x.now args.y.now this.j (turn_below (goal.at.loop-j-preserved c).In-loop-j)
+    (sym (accumulated_scaled args.reducer.q args.total.now args.x.now args.y.now this.j (turn_below (goal.at.loop-j-preserved c).In-loop-j)
     (turn_inside (goal.at.loop-j-preserved c).In-loop-j))))
 
 pub returns : goal.returns

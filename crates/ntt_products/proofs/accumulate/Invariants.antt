@@ -6,4 +6,4 @@ use Rattle.ntt_products.specs.Stored.{unscaled, accumulated}
 use Rattle.ntt_products.proofs.accumulate.Given as goal
 
 abbrev pub invariant-loop-j : goal.invariant-loop-j
-invariant-loop-j l = Filled l.initial.total 0 (length l.initial.total) (accumulated l.q l.initial.total (unscaled l.q l.x) l.y) l.j l.total
+invariant-loop-j l = Filled l.initial.total 0 (length l.initial.total) (accumulated l.reducer.q l.initial.total (unscaled l.reducer.q l.x) l.y) l.j l.total

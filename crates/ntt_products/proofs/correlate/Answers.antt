@@ -23,14 +23,15 @@ sent_is c = c.send_front.ensures _ c.requires.1.root
 products_are : (c : After-multiply) → let p = c.args.p in
     c.multiply.new.x ≡ products p.q (sent p c.args.i (take c.args.n c.args.x.now)) c.args.stored.now
 products_are c =
-    c.multiply.ensures ∙ ap (λ (xs : List ℕ). products c.args.p.q xs c.args.stored.now) (sent_is (goal.at.After-multiply c).After-send_front)
+    rw c.new.ensures at c.multiply.ensures
+    ∙ ap (λ (xs : List ℕ). products c.args.p.q xs c.args.stored.now) (sent_is (goal.at.After-multiply c).After-send_front)
 
 pub send_front-requires : goal.send_front-requires
 send_front-requires c =
     (listed_rules c.args.p c.requires.0, c.requires.1.lent, c.requires.2)
 
-pub negated_inverse-requires : goal.negated_inverse-requires
-negated_inverse-requires c =
+pub new-requires : goal.new-requires
+new-requires c =
     let p = c.args.p in
     rules_odd p (listed_rules p c.requires.0)
 
@@ -38,7 +39,7 @@ pub multiply-requires : goal.multiply-requires
 multiply-requires c =
     let sent = sent_placed c.args.p c.requires.0 c.args.i (take c.args.n c.args.x.now) in
     let both = factors c.args.p c.requires.0 c.args.i (sent_is (goal.at.multiply-requires c).After-send_front) sent c.requires.4 in
-    (c.negated_inverse.ensures, both.0, both.1)
+    rw c.new.ensures both
 
 pub scaled_inverse_of-requires : goal.scaled_inverse_of-requires
 scaled_inverse_of-requires c =

@@ -16,7 +16,7 @@ pub settle_number-requires : goal.settle_number-requires
 settle_number-requires c =
     let turn = c.loop-j in
     let below : turn.j < length c.args.x.now = omega (arith, turn.invariant.kept_length, c.loop-j-test.true) in
-    (c.requires.0, c.requires.2.each turn.j below)
+    c.requires.1.each turn.j below
 
 pub loop-j-preserved : goal.loop-j-preserved
 loop-j-preserved c =
@@ -24,7 +24,7 @@ loop-j-preserved c =
     let below : turn.j < length c.args.x.now = omega (arith, turn.invariant.kept_length, c.loop-j-test.true) in
     filled_more 0 turn.invariant below (sym (zero-add turn.j))
     (c.settle_number.ensures
-    ∙ rw (ahead turn.invariant) (sym (products_at c.args.q c.args.x.now c.args.y.now turn.j below)))
+    ∙ rw (ahead turn.invariant) (sym (products_at c.args.reducer.q c.args.x.now c.args.y.now turn.j below)))
 
 pub returns : goal.returns
 returns c = filled_whole c.loop-j.invariant refl (omega (arith, c.loop-j-test.false, c.loop-j.invariant.kept_length))

@@ -6,4 +6,4 @@ use Rattle.ntt_products.specs.Stored.{products}
 use Rattle.ntt_products.proofs.multiply.Given as goal
 
 abbrev pub invariant-loop-j : goal.invariant-loop-j
-invariant-loop-j l = Filled l.initial.x 0 (length l.initial.x) (products l.q l.initial.x l.y) l.j l.x
+invariant-loop-j l = Filled l.initial.x 0 (length l.initial.x) (products l.reducer.q l.initial.x l.y) l.j l.x

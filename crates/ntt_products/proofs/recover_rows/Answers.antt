@@ -9,18 +9,18 @@ pub rows_of-requires : goal.rows_of-requires
 rows_of-requires c =
     listed_rules c.args.p c.requires.1
 
-pub negated_inverse-requires : goal.negated_inverse-requires
-negated_inverse-requires c =
+pub new-requires : goal.new-requires
+new-requires c =
     rules_odd _ (listed_rules c.args.p c.requires.1)
 
 pub inverse_rows-requires : goal.inverse_rows-requires
 inverse_rows-requires c =
     let pre = c.requires in
-    rw c.rows_of.ensures
-    (rows_recoverable c.args.p pre.0 pre.1 c.args.i pre.2 pre.3 c.negated_inverse.ensures)
+    rw (c.rows_of.ensures, c.new.ensures)
+    (rows_recoverable c.args.p pre.0 pre.1 c.args.i pre.2 pre.3)
 
 pub returns : goal.returns
 returns c =
     let pre = c.requires in
     rows_recovered c.args.p pre.0 pre.1 c.args.i pre.2 pre.3
-    (rw c.rows_of.ensures at c.inverse_rows.ensures)
+    (rw (c.rows_of.ensures, c.new.ensures) at c.inverse_rows.ensures)

@@ -7,9 +7,9 @@ use Rattle.ntt_products.proofs.scale_first.Goals as goal
 
 pub settle-requires : goal.settle-requires
 settle-requires c =
-    (c.negated_inverse-k.ensures, rw c.scaled_scale-by.ensures (mod-lt _ (omega (arith, c.requires.0.some))))
+    rw (c.scaled_scale-by.ensures, c.new.ensures) (mod-lt _ (omega (arith, c.requires.0.some)))
 
 pub returns : goal.returns
 returns c =
     scaled_front c.requires.0 c.args.n _ c.args.x.now _ c.scaled_scale-by.ensures c.requires.1
-    c.settle.ensures
+    (rw c.new.ensures at c.settle.ensures)

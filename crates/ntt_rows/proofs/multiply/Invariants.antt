@@ -5,4 +5,4 @@ use Rattle.ntt_rows.proofs.Rows.{Product}
 use Rattle.ntt_rows.proofs.multiply.Given as goal
 
 abbrev pub invariant-loop-i : goal.invariant-loop-i
-invariant-loop-i l = Written (Product l.q l.by l.from) 0 256 l.initial.to l.i l.to
+invariant-loop-i l = Written (Product l.reducer.q l.by l.from) 0 256 l.initial.to l.i l.to

@@ -19,7 +19,7 @@ loop-number-preserved c =
     let turn = c.loop-number in
     let below : turn.number-index < length args.x.now = omega (arith, turn.invariant.kept_length, turn.auto) in
     filled_more 0 turn.invariant below (sym (zero-add turn.number-index))
-    (c.settle_number.ensures ∙ ap (λ (y : ℕ). y * unscale args.q args.by % args.q) (ahead turn.invariant)
+    (c.settle_number.ensures ∙ ap (λ (y : ℕ). y * unscale args.reducer.q args.by % args.reducer.q) (ahead turn.invariant)
     ∙ sym (tabulate_at (length args.x.now) _ turn.number-index below))
 
 pub returns : goal.returns

@@ -8,4 +8,6 @@ use Rattle.montgomery.specs.Scaled.{unscale}
 use Rattle.ntt_settle.proofs.settle.Given as goal
 
 abbrev pub invariant-loop-number : goal.invariant-loop-number
-invariant-loop-number l = Filled l.initial.x 0 (length l.initial.x) (tabulate (length l.initial.x) (λ j. at l.initial.x j * unscale l.q l.by % l.q)) l.number-index l.x
+invariant-loop-number l =
+    Filled l.initial.x 0 (length l.initial.x) (tabulate (length l.initial.x) (λ j. at l.initial.x j * unscale l.reducer.q l.by % l.reducer.q))
+    l.number-index l.x

@@ -6,4 +6,4 @@ use Rattle.ntt_steps.proofs.Halves.{PartTurn}
 use Rattle.ntt_steps.proofs.narrow_part.Given as goal
 
 abbrev pub invariant-loop-i : goal.invariant-loop-i
-invariant-loop-i l = FourWritten (PartTurn l.q l.lift l.roots l.from l.part) (64 * l.part) 16 l.initial.to l.i l.to
+invariant-loop-i l = FourWritten (PartTurn l.reducer.q l.lift l.roots l.from l.part) (64 * l.part) 16 l.initial.to l.i l.to

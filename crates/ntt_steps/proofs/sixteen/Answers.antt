@@ -7,8 +7,8 @@ use Rattle.ntt_steps.proofs.sixteen.Goals as goal
 pub wide-requires : goal.wide-requires
 wide-requires c =
     let first = c.narrow in
-    wide_ready c.requires (omega (arith, first.auto.to)) first.ensures
+    wide_ready c.args.reducer.modulus.modulus c.requires (omega (arith, first.auto.to)) first.ensures
 
 pub returns : goal.returns
 returns c =
-    halves (omega (arith, c.requires.modulus.modulus.some)) c.narrow.ensures c.wide.ensures
+    halves (omega (arith, c.args.reducer.modulus.modulus.some)) c.narrow.ensures c.wide.ensures

@@ -5,4 +5,4 @@ use Rattle.ntt_steps.proofs.Halves.{QuarterTurn}
 use Rattle.ntt_steps.proofs.wide.Given as goal
 
 abbrev pub invariant-loop-i : goal.invariant-loop-i
-invariant-loop-i l = FourWritten (QuarterTurn l.q l.lift l.roots l.from) 0 64 l.initial.to l.i l.to
+invariant-loop-i l = FourWritten (QuarterTurn l.reducer.q l.lift l.roots l.from) 0 64 l.initial.to l.i l.to

@@ -4,4 +4,4 @@ use Rattle.ntt_tables.proofs.Fill.{Filling}
 use Rattle.ntt_tables.proofs.fill_powers.Given as goal
 
 abbrev pub invariant-loop-i : goal.invariant-loop-i
-invariant-loop-i g l = Filling l.q l.start l.n (goal.F-post g l.place) l.initial.tables l.i l.tables
+invariant-loop-i g l = Filling l.reducer.q l.start l.n (goal.F-post g l.place) l.initial.tables l.i l.tables

@@ -1,32 +1,33 @@
 -- `ntt_tables::fill_tables` meets its contract: the four steps, one after the other.
 -- Assumes nothing.
-use Prim.Native.Nat.{◌+◌, ◌*◌, ◌/◌, ◌%◌}
+use Prim.Native.Nat.{◌+◌, ◌*◌, ◌/◌, ◌%◌, ◌^◌}
+use mathlib.Core.Path.{◌≡◌}
 use native.Mathlib.Nat.{add_assoc}
 use native.Mathlib.Omega.{arith}
 use Rattle.std.proofs.Common.{rules}
-use Rattle.ntt_tables.specs.Steps.{Scaling, Filled}
+use Rattle.ntt_tables.specs.Steps.{Filled}
 use Rattle.ntt_tables.proofs.Made.{filled_below, made_ready, made_tables}
 use Rattle.ntt_tables.proofs.fill_tables.Goals.{After-scaled_scale-by, After-fill_powers, After-fill_powers-2, After-fill_powers-3}
 use Rattle.ntt_tables.proofs.fill_tables.Goals as goal
 
--- the modulus, its negated inverse and the scaled form of 2^32
-scaling : (c : After-scaled_scale-by) → Scaling c.args.q c.negated_inverse-k.result c.scaled_scale-by.result
-scaling c = record { modulus = c.negated_inverse-k.ensures; scale = c.scaled_scale-by.ensures }
+-- the factor is the scaled form of 2^32 modulo what the numbers are reduced by
+scaling : (c : After-scaled_scale-by) → c.scaled_scale-by.result ≡ 2 ^ 64 % c.new-reducer.result.q
+scaling c = rw c.new-reducer.ensures c.scaled_scale-by.ensures
 
 -- the twist within a row
 twist : (c : After-fill_powers)
     → let args = c.args in Filled args.q (args.rows * 256) 256 (λ i. args.rows * (i / 16 * (i % 16))) args.tables.now c.fill_powers.new.tables
-twist c = c.fill_powers.ensures _ (λ i j h p. search rules)
+twist c = rw c.new-reducer.ensures at (c.fill_powers.ensures (λ i. c.args.rows * (i / 16 * (i % 16))) (λ i j h p. search rules))
 
 -- the powers for the columns of a row
 row_columns : (c : After-fill_powers-2)
     → let args = c.args in Filled args.q (args.rows * 256 + 256) 8 (λ i. 16 * args.rows * i) c.fill_powers.new.tables c.fill_powers-2.new.tables
-row_columns c = c.fill_powers-2.ensures _ (λ i j h p. search rules)
+row_columns c = rw c.new-reducer.ensures at (c.fill_powers-2.ensures (λ i. 16 * c.args.rows * i) (λ i j h p. search rules))
 
 -- the powers for the columns
 columns : (c : After-fill_powers-3)
     → let args = c.args in Filled args.q (args.rows * 256 + 264) args.rows (λ i. 256 * i) c.fill_powers-2.new.tables c.fill_powers-3.new.tables
-columns c = c.fill_powers-3.ensures _ (λ i j h p. search rules)
+columns c = rw c.new-reducer.ensures at (c.fill_powers-3.ensures (λ i. 256 * i) (λ i j h p. search rules))
 
 pub fill_powers-requires-2-clause-numbers : goal.fill_powers-requires-2-clause-numbers
 fill_powers-requires-2-clause-numbers c =
@@ -34,7 +35,7 @@ fill_powers-requires-2-clause-numbers c =
       scaling (goal.at.fill_powers-requires-2-clause-numbers c).After-scaled_scale-by,
       omega (arith, c.requires.3, made.size),
       omega (arith, c.requires.2),
-      filled_below made c.requires.4,
+      rw c.new-reducer.ensures (filled_below made c.requires.4),
     )
 
 pub fill_powers-requires-3-clause-numbers : goal.fill_powers-requires-3-clause-numbers
@@ -44,7 +45,7 @@ fill_powers-requires-3-clause-numbers c =
       scaling (goal.at.fill_powers-requires-3-clause-numbers c).After-scaled_scale-by,
       omega (arith, c.requires.3, first.size, second.size),
       omega (arith, c.requires.2),
-      rw (add_assoc (c.args.rows * 256) 256 8) at (filled_below second (filled_below first c.requires.4)),
+      rw c.new-reducer.ensures (rw (add_assoc (c.args.rows * 256) 256 8) at (filled_below second (filled_below first c.requires.4))),
     )
 
 pub returns-clause-ready : goal.returns-clause-ready

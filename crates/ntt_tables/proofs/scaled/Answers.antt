@@ -4,4 +4,4 @@ use Rattle.ntt_tables.proofs.Fill.{scaled_back}
 use Rattle.ntt_tables.proofs.scaled.Goals as goal
 
 pub returns : goal.returns
-returns c = scaled_back c.requires.0 c.requires.1 c.settle_number.ensures
+returns c = scaled_back c.args.reducer.modulus.modulus c.requires.0 c.requires.1 c.settle_number.ensures

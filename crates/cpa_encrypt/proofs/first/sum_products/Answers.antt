@@ -12,8 +12,8 @@ use Rattle.cpa_encrypt.proofs.Adding.{PolynomialSent, polynomial_sent, polynomia
 use Rattle.cpa_encrypt.proofs.first.sum_products.Goals.{In_ok-counter, In-loop-i}
 use Rattle.cpa_encrypt.proofs.first.sum_products.Goals as goal
 
-pub negated_inverse-k-requires : goal.negated_inverse-k-requires
-negated_inverse-k-requires c =
+pub new-reducer-requires : goal.new-reducer-requires
+new-reducer-requires c =
     rules_odd c.args.p (listed_rules c.args.p c.requires.1)
 
 pub loop-i-init : goal.loop-i-init
@@ -55,13 +55,14 @@ sent_here c =
 
 pub accumulate-requires : goal.accumulate-requires
 accumulate-requires c =
-    adding_addends c.args.p c.requires.1 c.args.seed.now c.args.multipliers.now c.negated_inverse-k.ensures
-    c.loop-i.invariant c.send_multipliers.ensures (sent_here (goal.at.accumulate-requires c).In_ok-counter).y_is
+    rw c.new-reducer.ensures
+    (adding_addends c.args.p c.requires.1 c.args.seed.now c.args.multipliers.now c.loop-i.invariant c.send_multipliers.ensures
+    (sent_here (goal.at.accumulate-requires c).In_ok-counter).y_is)
 
 pub loop-i-preserved : goal.loop-i-preserved
 loop-i-preserved c =
     adding_more c.args.p c.requires.1 c.args.seed.now c.args.multipliers.now _ _ _ _ c.loop-i.invariant (turn_below (goal.at.loop-i-preserved c).In-loop-i)
-    (sent_here (goal.at.loop-i-preserved c).In_ok-counter) c.send_multipliers.ensures c.accumulate.ensures
+    (sent_here (goal.at.loop-i-preserved c).In_ok-counter) c.send_multipliers.ensures (rw c.new-reducer.ensures at c.accumulate.ensures)
 
 pub returns : goal.returns
 returns c =

@@ -13,8 +13,8 @@ use Rattle.cpa_encrypt.proofs.Correlating.{correlating_more, correlating_addends
 use Rattle.cpa_encrypt.proofs.second.sum_stored.Goals.{In-loop-i}
 use Rattle.cpa_encrypt.proofs.second.sum_stored.Goals as goal
 
-pub negated_inverse-k-requires : goal.negated_inverse-k-requires
-negated_inverse-k-requires c = rules_odd c.args.p (listed_rules c.args.p c.requires.0)
+pub new-reducer-requires : goal.new-reducer-requires
+new-reducer-requires c = rules_odd c.args.p (listed_rules c.args.p c.requires.0)
 
 pub loop-i-init : goal.loop-i-init
 loop-i-init c = correlating_none c.args.p c.requires.0 _ _ _ _ c.requires.4 c.requires.5
@@ -69,14 +69,16 @@ slice_bounds-accumulate-end c =
 
 pub accumulate-requires : goal.accumulate-requires
 accumulate-requires c =
-    correlating_addends c.args.p c.requires.0 c.args.numbers.now c.args.multipliers.now c.negated_inverse-k.ensures
+    rw c.new-reducer.ensures
+    (correlating_addends c.args.p c.requires.0 c.args.numbers.now c.args.multipliers.now
     c.requires.1 c.loop-i.invariant (turn_below (goal.at.accumulate-requires c).In-loop-i) c.send_multipliers.ensures
-    (turn_part (goal.at.accumulate-requires c).In-loop-i)
+    (turn_part (goal.at.accumulate-requires c).In-loop-i))
 
 pub loop-i-preserved : goal.loop-i-preserved
 loop-i-preserved c =
     correlating_more c.args.p c.requires.0 c.args.numbers.now c.args.multipliers.now _ _ _ c.loop-i.invariant
-    (turn_below (goal.at.loop-i-preserved c).In-loop-i) c.send_multipliers.ensures (turn_part (goal.at.loop-i-preserved c).In-loop-i) c.accumulate.ensures
+    (turn_below (goal.at.loop-i-preserved c).In-loop-i) c.send_multipliers.ensures (turn_part (goal.at.loop-i-preserved c).In-loop-i)
+    (rw c.new-reducer.ensures at c.accumulate.ensures)
 
 pub returns : goal.returns
 returns c =

@@ -15,18 +15,19 @@ half_modulus-half-requires c = listed_rules c.args.p c.requires.1
 pub rows_of-count-requires : goal.rows_of-count-requires
 rows_of-count-requires c = listed_rules c.args.p c.requires.1
 
-pub negated_inverse-k-requires : goal.negated_inverse-k-requires
-negated_inverse-k-requires c = rules_odd _ (listed_rules c.args.p c.requires.1)
+pub new-reducer-requires : goal.new-reducer-requires
+new-reducer-requires c = rules_odd _ (listed_rules c.args.p c.requires.1)
 
 pub fill-requires : goal.fill-requires
 fill-requires c =
     let pre = c.requires in
-    walk_ready c.args.p pre.0 pre.1 _ _ _ _ c.row_scale_of-by.ensures c.half_modulus-half.ensures c.rows_of-count.ensures pre.4
-    c.args.rows.now c.negated_inverse-k.ensures pre.2 pre.3
+    rw c.new-reducer.ensures
+    (walk_ready c.args.p pre.0 pre.1 _ _ _ _ c.row_scale_of-by.ensures c.half_modulus-half.ensures c.rows_of-count.ensures pre.4
+    c.args.rows.now pre.2 pre.3)
 
 pub returns : goal.returns
 returns c sums recovered =
     let pre = c.requires in
-    c.fill.ensures
+    rw c.new-reducer.ensures at c.fill.ensures
     ∙ walk_added c.args.p pre.0 pre.1 _ _ _ _ c.row_scale_of-by.ensures c.half_modulus-half.ensures c.rows_of-count.ensures pre.4
     c.args.rows.now sums c.args.message.now recovered
