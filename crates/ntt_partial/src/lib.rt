@@ -9,6 +9,7 @@ ghost use Rattle.ntt_partial.specs.Calls.{partial_left, partial_inverse_left};
 
 use calls::Answer;
 
+// Two functions, since C has a name for each (titanium_partial_transform, titanium_partial_inverse); alike but for the step, and for the part that is lent.
 // The transform of the first `m` of `rows` rows, with zeros for the others, whose numbers are only checked; in the order of 003's permutation.
 pub fn forward(
     set: usize,
@@ -22,8 +23,7 @@ pub fn forward(
     ensures left { out.new ≡ partial_left set rows row m input.now out.old }
 {
     let p = sets::parameters_of(set);
-    ntt_partial_checks::checked(set, p, rows, row, m, input, out.len())?;
-    let i = ntt_partial_checks::size_number(p, rows, row);
+    let i = ntt_partial_checks::checked(set, p, rows, row, m, input, out.len())?;
     if row == 256 {
         ntt_partial_steps::forward_wide(p, i, m, input, out);
         return Ok(());
@@ -45,8 +45,7 @@ pub fn inverse(
     ensures left { out.new ≡ partial_inverse_left set rows row m input.now out.old }
 {
     let p = sets::parameters_of(set);
-    ntt_partial_checks::checked(set, p, rows, row, m, input, out.len())?;
-    let i = ntt_partial_checks::size_number(p, rows, row);
+    let i = ntt_partial_checks::checked(set, p, rows, row, m, input, out.len())?;
     let end = m * row;
     if row == 256 {
         ntt_partial_steps::inverse_wide(p, i, m, input, &mut out[0..end]);

@@ -7,6 +7,10 @@ use native.Mathlib.Nat.{mul_comm, mul-zero, mul-suc}
 use native.Mathlib.Omega.{arith}
 use lib.Dec.{eqb}
 use borrow.Author.Tests.{eqb-true, eq-eqb, ne_eqb}
+use Rattle.std.specs.Prelude.{Result, Err, IsErrAnd, MatchResult}
+use Rattle.std.proofs.lemmas.Result.{err_from_is_err_and}
+use Rattle.calls.specs.declared.Refusal.{Refusal}
+use Rattle.calls.specs.Outcome.{Outcome, outcome}
 use Rattle.sets.specs.declared.Parameters.{Parameters}
 use Rattle.sets.specs.Derived.{transform_size_of}
 use Rattle.sets.specs.Rules.{Rules}
@@ -63,3 +67,8 @@ size_found p n some = found (eqb n p.d1) (eqb n p.d2) (eqb n p.d3) refl refl ref
     found false true three a b c other = second_size p ∙ sym (eqb-true n p.d2 b)
     found false false true a b c other = third_size p ∙ sym (eqb-true n p.d3 c)
     found false false false a b c other = absurd (other refl)
+
+-- what `?` hands on is the refusal that was met
+pub handed_refusal : (P : ℕ → Type 0) {o : Outcome} (e : Refusal) (r : Result ℕ Refusal) → IsErrAnd r (λ y. y ≡ e) → outcome (Err e) ≡ o
+    → MatchResult r P (λ refusal. outcome (Err refusal) ≡ o)
+handed_refusal P e r handed met = let same = err_from_is_err_and r handed in rw (same.1, same.2) met

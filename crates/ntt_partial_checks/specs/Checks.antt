@@ -1,8 +1,9 @@
 -- What the open calls of the partial transform answer (02, No. 2). A size is worked as D1 rows of D2 numbers; m is the number of rows that are read, going
 -- forward, or written, going back.
 -- Assumes nothing.
-use Rattle.std.specs.Prelude.{◌≡◌, refl, not, cond, List, [], ◌∷◌, map, ℕ, ◌*◌, ltb, eqb, length}
-use Rattle.calls.specs.Outcome.{Outcome, accepted, refused, refuse}
+use Rattle.std.specs.Prelude.{◌≡◌, refl, not, cond, List, [], ◌∷◌, map, ℕ, ◌*◌, ltb, eqb, length, Result, Err, MatchResult}
+use Rattle.calls.specs.declared.Refusal.{Refusal}
+use Rattle.calls.specs.Outcome.{Outcome, accepted, refused, refuse, outcome}
 use Rattle.calls.specs.Checks.{refuse_first, below}
 use Rattle.sets.specs.declared.Parameters.{Parameters}
 use Rattle.sets.specs.Table.{table, set_of, no_set}
@@ -22,6 +23,12 @@ partial_answer_of set D1 D2 m input places =
     (refuse (not (eqb (length input) (D1 * D2))) 2 0
     (refuse (not (eqb places (D1 * D2))) 2 0
     (refuse_first (below (set_of set).q) 0 0 input accepted)))))))
+
+-- what the checks give: the number of the set's transform of that size where they accept, else their refusal
+abbrev pub PartialChecked : ℕ → ℕ → ℕ → ℕ → List ℕ → ℕ → Result ℕ Refusal → Type 0
+PartialChecked set D1 D2 m input places result =
+    MatchResult result (λ i. (i ≡ size_number_of (set_of set) (D1 * D2)) × (accepted ≡ partial_answer_of set D1 D2 m input places))
+    (λ refusal. outcome (Err refusal) ≡ partial_answer_of set D1 D2 m input places)
 
 -- set 1 has transforms of 512, 1,024 and 1,280 places
 size_number_example : map (size_number_of (set_of 1)) (512 ∷ 1024 ∷ 1280 ∷ 0 ∷ 256 ∷ 2 * 18446744073709551616 ∷ []) ≡ 1 ∷ 2 ∷ 3 ∷ 0 ∷ 0 ∷ 0 ∷ []

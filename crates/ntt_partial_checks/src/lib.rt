@@ -1,37 +1,36 @@
 // The checks of the partial transform and of its inverse (02, No. 2), and which transform of a set has a size.
 #![tactic(auto)]
 
-ghost use Rattle.std.specs.Prelude.{◌≡◌, ◌*◌};
-ghost use Rattle.calls.specs.Outcome.{outcome};
+ghost use Rattle.std.specs.Prelude.{◌≡◌, ◌*◌, ◌<◌, MatchOption};
 ghost use Rattle.sets.specs.Table.{set_of};
 ghost use Rattle.sets.specs.Rules.{Rules};
-ghost use Rattle.ntt_partial_checks.specs.Checks.{size_number_of, partial_answer_of};
+ghost use Rattle.ntt_partial_checks.specs.Checks.{size_number_of, PartialChecked};
 
-use calls::{Answer, Refusal};
+use calls::Refusal;
 use sets::Parameters;
 
-// Which transform of the set has rows · row places: 1, 2 or 3, or 0 where none has. A factor above 4,096 is refused before the product, which could wrap.
-pub fn size_number(p: Parameters, rows: usize, row: usize) -> usize
+// Which transform of the set has rows · row places: 1, 2 or 3, where one has. A factor above 4,096 is refused before the product, which could wrap.
+pub fn size_number(p: Parameters, rows: usize, row: usize) -> Option<usize>
     requires { Rules p }
-    ensures { result ≡ size_number_of p (rows * row) }
+    ensures { MatchOption result (size_number_of p (rows * row) ≡ 0) (λ i. (0 < i) × (i ≡ size_number_of p (rows * row))) }
 {
     if 4096 < rows {
-        return 0;
+        return None;
     }
     if 4096 < row {
-        return 0;
+        return None;
     }
     let size = rows * row;
     if size == p.d1 {
-        return 1;
+        return Some(1);
     }
     if size == p.d2 {
-        return 2;
+        return Some(2);
     }
-    if size == p.d3 { 3 } else { 0 }
+    if size == p.d3 { Some(3) } else { None }
 }
 
-// The checks of both calls, in the order 1, 11, 12, 2, 3; `places` is the length of the output.
+// The checks of both calls, in the order 1, 11, 12, 2, 3; `places` is the length of the output. They give the number of the transform.
 pub fn checked(
     set: usize,
     p: Parameters,
@@ -40,9 +39,9 @@ pub fn checked(
     m: usize,
     input: &[u32],
     places: usize,
-) -> Answer
+) -> Result<usize, Refusal>
     requires { p ≡ set_of set }
-    ensures { outcome result ≡ partial_answer_of set rows row m input.now places }
+    ensures { PartialChecked set rows row m input.now places result }
 {
     if set < 1 {
         return Err(Refusal::NoSuchSet);
@@ -56,9 +55,7 @@ pub fn checked(
     if rows < m {
         return Err(Refusal::RowCount);
     }
-    if size_number(p, rows, row) == 0 {
-        return Err(Refusal::NoTransform);
-    }
+    let i = size_number(p, rows, row).ok_or(Refusal::NoTransform)?;
     let size = rows * row;
     if input.len() != size {
         return Err(Refusal::Length);
@@ -66,5 +63,6 @@ pub fn checked(
     if places != size {
         return Err(Refusal::Length);
     }
-    middle::checks::one_checked(input, p.q, 0)
+    middle::checks::one_checked(input, p.q, 0)?;
+    Ok(i)
 }

@@ -8,10 +8,10 @@ use Rattle.ntt_partial_checks.proofs.Sizes.{size_none, size_large, size_wide, si
 use Rattle.ntt_partial_checks.proofs.size_number.Goals as goal
 
 pub returns-then-rows-gt4096 : goal.returns-then-rows-gt4096
-returns-then-rows-gt4096 c = sym (size_large c.args.p c.requires c.args.rows c.args.row c.if-rows-gt4096.true)
+returns-then-rows-gt4096 c = size_large c.args.p c.requires c.args.rows c.args.row c.if-rows-gt4096.true
 
 pub returns-then-row-gt4096 : goal.returns-then-row-gt4096
-returns-then-row-gt4096 c = sym (size_wide c.args.p c.requires c.args.rows c.args.row c.if-row-gt4096.true)
+returns-then-row-gt4096 c = size_wide c.args.p c.requires c.args.rows c.args.row c.if-row-gt4096.true
 
 pub overflow_mul-size : goal.overflow_mul-size
 overflow_mul-size c =
@@ -20,14 +20,14 @@ overflow_mul-size c =
     record { fits = omega arith }
 
 pub returns-then-size-p : goal.returns-then-size-p
-returns-then-size-p c = sym (size_one _ _ c.if-size-p.true)
+returns-then-size-p c = (omega arith, sym (size_one _ _ c.if-size-p.true))
 
 pub returns-then-size-p-2 : goal.returns-then-size-p-2
-returns-then-size-p-2 c = sym (size_two _ _ c.if-size-p.false c.if-size-p-2.true)
+returns-then-size-p-2 c = (omega arith, sym (size_two _ _ c.if-size-p.false c.if-size-p-2.true))
 
 pub returns-then-size-p-3 : goal.returns-then-size-p-3
-returns-then-size-p-3 c = sym (size_three _ _ c.if-size-p.false c.if-size-p-2.false c.if-size-p-3.true)
+returns-then-size-p-3 c = (omega arith, sym (size_three _ _ c.if-size-p.false c.if-size-p-2.false c.if-size-p-3.true))
 
 pub returns-else-size-p-3 : goal.returns-else-size-p-3
 returns-else-size-p-3 c =
-    sym (size_none c.args.p c.requires _ c.if-size-p.false c.if-size-p-2.false c.if-size-p-3.false)
+    size_none c.args.p c.requires _ c.if-size-p.false c.if-size-p-2.false c.if-size-p-3.false
