@@ -40,7 +40,9 @@ show('enums that hold a value or a refusal', lines(r'^\s*(pub )?enum (Answer|Dra
 show('functions that take the number of a refusal out of an answer', lines(r'fn refusal_of\b'))
 show('matches on a number that stands for a kind', lines(r'^\s*match (number|line\[0\]) \{'))
 show('a number for the scheme of a set', lines(r'pub scheme: u32'))
-show('answers handed on by a match or a let-else', lines(r'let Answer::Done = \w+ else|Answer::Refused\(number, place\) => Answer::Refused|let Advance::Counter\(.*else|let Progress::Reached\(.*else'))
+handed_on = [r'let Answer::Done = \w+ else', r'Answer::Refused\(number, place\) => Answer::Refused', r'let (Advance::Counter|Progress::Reached)\(.*else']
+show('answers handed on by a match or a let-else', lines('|'.join(handed_on)))
+show('errors taken out of a Result by hand', lines(r'unwrap_err\(|if let Err\('))
 
 print('2  twins')
 skeletons = collections.defaultdict(list)
@@ -73,9 +75,6 @@ for f, name, head, body in functions:
                 facts[fact].add('%s::%s' % (f.split('/')[1], name))
 often = sorted(((len(v), k) for k, v in facts.items() if len(v) >= 3), reverse=True)
 show('facts that stand in the contracts of three functions or more', ['%d %s' % o for o in often])
-
-print('6  lengths beside slices')
-show('parameters that say how long another is', [])
 
 print('7  switches')
 show('matches whose arms call functions by a number', lines(r'^\s*match (number|line\[0\]) \{'))

@@ -13,7 +13,8 @@ ghost use Rattle.sets.specs.Rules.{Rules, ByteRules};
 ghost use Rattle.montgomery.specs.Scaled.{scale, Odd};
 ghost use Rattle.ntt_products.specs.Stored.{row_count, size_inverse_of, row_scale, inverse_powers, sent, sent_inverse, recovered_inverse, recovered};
 ghost use Rattle.ntt_products.specs.Stored.{unscaled, products, accumulated, correlations};
-ghost use Rattle.ntt_products.specs.Placed.{Placed, SentScaled, table_length_of, SetLent, SetTables, RootTables, InverseTables, TablesOf, root_of, RowsRecovered};
+ghost use Rattle.ntt_products.specs.Placed.{Placed, SentScaled, table_length_of, SetLent, SetTables, RootTables, InverseTables};
+ghost use Rattle.ntt_products.specs.Placed.{TablesOf, root_of, RowsRecovered};
 
 use montgomery::Reducer;
 use sets::Parameters;

@@ -39,7 +39,8 @@ turned_at : (x : ℕ) (xs : List ℕ) (k : ℕ) → 1 ≤ k → k < length (x �
 turned_at x xs k h l = grind (arith, common_steps, get_or-reverse)
 
 -- a table that is turned round behind its first place is that of the inverse
-pub inverted : (old later : List ℕ) → 1 ≤ length old → later ≡ reverse (mid_of 1 (length old - 1) old) → InvertedTable old (put_mid 1 (length old - 1) old later)
+pub inverted : (old later : List ℕ) → 1 ≤ length old → later ≡ reverse (mid_of 1 (length old - 1) old)
+    → InvertedTable old (put_mid 1 (length old - 1) old later)
 inverted [] later some e = absurd (omega arith)
 inverted (x ∷ xs) later some e =
     rw (e, turned x xs)

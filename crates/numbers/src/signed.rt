@@ -44,7 +44,7 @@ fn is_multiplier(p: Parameters, position: usize, z: i32) -> bool
     size_within(z, multiplier_bound(p, position))
 }
 
-// The index of the first number that is no multiplier at its position, or the length where there is none.
+// The index of the first number that is no multiplier at its position, or the length where there is none, as `passing` counts.
 fn first_non_multiplier(p: Parameters, rs: &[i32]) -> usize
     requires { Rules p }
     ensures { result ≡ passing (is_multiplier_of p) 0 rs.now }

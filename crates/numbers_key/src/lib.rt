@@ -36,7 +36,7 @@ fn lengths_fit(p: Parameters, a: usize, s: usize, e: usize, b: usize) -> bool
     true
 }
 
-// The index of the first number of size above `eta`, or the length where there is none.
+// The index of the first number of size above `eta`, or the length where there is none, as `passing` counts.
 fn first_error(es: &[i32], eta: u32) -> usize
     requires { eta < 2 ^ 24 }
     ensures { result ≡ passing (is_error eta) 0 es.now }

@@ -75,6 +75,7 @@ fn pack_words(numbers: &[u32], width: u32, cmp: u32, out: &mut [u8]) -> usize
     let kept = width - cmp;
     let mut held: u64 = 0;
     let mut bits: u32 = 0;
+    // the place goes on where four bytes are full, and not with each number
     let mut j: usize = 0;
     for number in numbers {
         if out.len() < j + 4 {
@@ -93,7 +94,7 @@ fn pack_words(numbers: &[u32], width: u32, cmp: u32, out: &mut [u8]) -> usize
 }
 
 // Packs numbers of `width` bits each without their low `cmp` bits into all of `out`.
-// Both widths are plain numbers, as each caller reads them from the record of its set: a struct of the two would be made anew at every call.
+// Both widths are plain numbers: a struct of the two would be built from two fields of the record of a set at each call, which is no shorter.
 pub fn pack_dropping(numbers: &[u32], width: u32, cmp: u32, out: &mut [u8])
     requires widths { Widths width cmp }
     requires digit { Digit width numbers.now }

@@ -70,6 +70,7 @@ pub fn residues_with_buffers(
     let mut counter = first;
     let mut done: usize = 0;
     let mut run: u32 = 0;
+    // not a count: how many blocks it takes is for their bytes to say
     loop {
         counter = byte_source::source_bytes(p, seed, counter, bytes);
         let (reached, aside) = continue_draw(bytes, p.q, p.zqrej, done, run, out)?;

@@ -55,7 +55,7 @@ fn fits(place: usize, byte: u8) -> bool
     byte < 2
 }
 
-// The place of the first byte out of range, or the length where there is none.
+// The place of the first byte out of range, or the length where there is none, as `passing` counts.
 pub fn first_unfit(input: &[u8]) -> usize
     ensures { result ≡ passing bench_fits 0 input.now }
 {

@@ -33,7 +33,7 @@ fn read_message(
         → opened.new ≡ message_read p seed.now message.now sealing.now }
 {
     cpa_keygen::keygen(p, seed, public, secret, work)?;
-    // a key that was made is accepted by both
+    // neither refuses: a key that keygen gives holds residues alone, and its draws, which encrypt and decrypt make again, are the ones that keygen made
     let _ = cpa_encrypt::encrypt(p, public, message, sealing, ciphertext, work);
     let _ = cpa_decrypt::decrypt(p, secret, ciphertext, opened, work);
     Ok(())

@@ -40,7 +40,7 @@ pub fn write_sheet(
     text.write(out)
 }
 
-// Writes the refusal with this number and place at the front of `out`, and answers its length.
+// Writes the refusal with this number and place at the front of `out`, and answers its length. Two numbers, and no `Refusal`: the line is defined for any two.
 pub fn write_refused(number: u8, place: u32, out: &mut [u8]) -> usize
     requires { 1024 ≤ length out.old }
     ensures value { result ≡ length (refused_text number place) }

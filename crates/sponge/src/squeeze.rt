@@ -11,7 +11,7 @@ pub fn squeeze(state: [[u64; 5]; 5], out: &mut [u8])
     ensures { out.new ≡ take (length out.old) (squeezed (keccak_f state) (length out.old / 136 + 1)) }
 {
     let mut a = state;
-    // By the number of the block: of what a loop writes through `chunks_mut` no more than the length is known to a proof.
+    // By the number of the block: tried with `chunks_mut`, and of what a loop writes through it a proof knows the length alone.
     for turn in 0..out.len().div_ceil(136) {
         let next = keccak::permute(a);
         a = next;

@@ -106,7 +106,8 @@ returns-in_err-residues_from c =
     let bytes = c.requires.0 in
     let none = answer_refusal (p (goal.at.returns-in_err-residues_from c).After-residues_from)
     (initial (seed (goal.at.returns-in_err-residues_from c).After-residues_from)) (p (goal.at.returns-in_err-residues_from c).After-residues_from).bytpcs
-    (p (goal.at.returns-in_err-residues_from c).After-residues_from).d3 bytes.some_bytpcs _ (answered (goal.at.returns-in_err-residues_from c).After-residues_from
+    (p (goal.at.returns-in_err-residues_from c).After-residues_from).d3 bytes.some_bytpcs _
+    (answered (goal.at.returns-in_err-residues_from c).After-residues_from
     ∙ ap (onward (seed (goal.at.returns-in_err-residues_from c).After-residues_from)) told) in
     let five = handed_as c.from_residual.result c.from_residual.ensures.1 ∙ ap (λ (k : ℕ). refused k 0) none.0 in
     let call = refused_call _ _ (secret_refused (p (goal.at.returns-in_err-residues_from c).After-residues_from)

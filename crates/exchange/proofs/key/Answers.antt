@@ -29,7 +29,8 @@ returns-in_err-p c =
     let whole = two_refused (key_draws p (inner_seed p args.seed.now)) args.work.now
     (exchange_public_key p args.seed.now) args.public.now
     (exchange_secret_key p args.seed.now) args.secret.now
-    _ c.from_residual.result c.from_residual.ensures.1 c.in_err-p.ensures in record { answer = whole.0; given = whole.1.0; kept = whole.1.1.0; cleared = whole.1.1.1 }
+    _ c.from_residual.result c.from_residual.ensures.1 c.in_err-p.ensures in
+    record { answer = whole.0; given = whole.1.0; kept = whole.1.1.0; cleared = whole.1.1.1 }
 
 pub keygen-answer-requires : goal.keygen-answer-requires
 keygen-answer-requires c =

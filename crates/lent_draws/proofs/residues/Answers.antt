@@ -30,7 +30,7 @@ returns-in_err-check_shape c =
 
 pub look-requires : goal.look-requires
 look-requires c =
-    (modulus_some _ _ c.parameters_of-p.ensures (shape (goal.at.look-requires c).In_ok-check_shape).most, (shape (goal.at.look-requires c).In_ok-check_shape).few)
+    let made = shape (goal.at.look-requires c).In_ok-check_shape in (modulus_some _ _ c.parameters_of-p.ensures made.most, made.few)
 
 pub returns-in-Err : goal.returns-in-Err
 unfolding residues_left

@@ -15,5 +15,6 @@ pub returns : goal.returns
 returns c =
     let a = c.args.a.now in
     let back : c.reverse.new.self ≡ tabulate (length a) (λ j. at a (length a - 1 - j)) =
-    c.reverse.ensures.after ∙ ap reverse c.copy_from_slice.ensures.after ∙ tabulate_unique (length a) _ (reverse a) (length-reverse a) (λ i h. get_or-reverse a i 0 h) in
+    c.reverse.ensures.after ∙ ap reverse c.copy_from_slice.ensures.after
+    ∙ tabulate_unique (length a) _ (reverse a) (length-reverse a) (λ i h. get_or-reverse a i 0 h) in
     rw back (over_lent c.args.x.now 0 _ (length a) (sym (zero-add _ ∙ tabulate_length (length a) _)))

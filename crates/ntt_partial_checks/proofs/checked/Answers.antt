@@ -92,7 +92,8 @@ by_lengths : (c : In_ok-i) → let args = c.args in
     (refuse_first (below (set_of args.set).q) 0 0 args.input.now accepted))
 by_lengths c =
     let found = number c in
-    by_size (goal.at.In_ok-i c).Else-rows-m ∙ rw (ne_eqb (size_number_of (set_of c.args.set) (c.args.rows * c.args.row)) 0 (λ e. omega (arith, found.0, found.1, e)))
+    by_size (goal.at.In_ok-i c).Else-rows-m
+    ∙ rw (ne_eqb (size_number_of (set_of c.args.set) (c.args.rows * c.args.row)) 0 (λ e. omega (arith, found.0, found.1, e)))
 
 -- the size is small
 size : (c : In_ok-i) → let args = c.args in args.rows * args.row ≤ 3328

@@ -1,4 +1,4 @@
--- `ntt_partial_steps::inverse_plain` meets its contract: the powers that are loaded are those of the inverse of the set's root, and the array has room for them.
+-- `ntt_partial_steps::inverse_plain` meets its contract: the powers that are loaded are those of the inverse of the set's root, and the array holds them.
 -- Assumes nothing.
 use mathlib.Core.Path.{◌≡◌, sym, ap, ◌∙◌}
 use Prim.Native.Nat.{◌*◌, ◌^◌}

@@ -48,4 +48,5 @@ returns c =
     let p = c.args.p in
     let i = c.args.i in
     let made = rw c.rows_of.ensures at c.fill_tables.ensures in
-    tables_of c.args.which p i made.lent (made.tables _ (powers_ordered p c.requires.0 i c.args.which (front_region _ _ _ (long (goal.at.returns c).After-load_powers) ∙ c.load_powers.ensures)))
+    tables_of c.args.which p i made.lent (made.tables _
+    (powers_ordered p c.requires.0 i c.args.which (front_region _ _ _ (long (goal.at.returns c).After-load_powers) ∙ c.load_powers.ensures)))

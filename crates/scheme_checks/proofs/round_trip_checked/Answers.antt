@@ -19,7 +19,8 @@ returns-in_err-p c = handed_refusal c.args.set _ c.from_residual.result c.from_r
 
 -- the lengths decide
 decided : (c : After-lengths_checked) → let args = c.args in
-    outcome c.lengths_checked.result ≡ round_trip_checks (is_of args.number) args.set args.seed args.message args.other args.given args.public args.secret args.ciphertext args.work
+    outcome c.lengths_checked.result
+    ≡ round_trip_checks (is_of args.number) args.set args.seed args.message args.other args.given args.public args.secret args.ciphertext args.work
 unfolding round_trip_checks
 decided c =
     c.lengths_checked.ensures

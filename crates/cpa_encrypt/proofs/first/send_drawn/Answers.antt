@@ -59,7 +59,8 @@ whole c = answer_whole c.args.p (state c) _ (front_size c)
 pub returns-in_err-next : goal.returns-in_err-next
 returns-in_err-next c =
     let told = sym c.in_err-next.ensures.answer in
-    let none = drawn_refused c.args.p (state (goal.at.returns-in_err-next c).Start) _ (front_size (goal.at.returns-in_err-next c).Start) c.requires.0.some_bytpca
+    let none = drawn_refused c.args.p (state (goal.at.returns-in_err-next c).Start) _
+    (front_size (goal.at.returns-in_err-next c).Start) c.requires.0.some_bytpca
     _ told in
     let same = err_from_is_err_and c.from_residual.result c.from_residual.ensures.1 in record {
       answer = rw (same.1, same.2) c.in_err-next.ensures.answer ∙ whole (goal.at.returns-in_err-next c).Start;

@@ -38,7 +38,10 @@ returns-in_err-counter c =
     stopped _ _ (public_drawn p seed i) (λ xs run. public_never_ends p c.requires.0 seed xs run i)
     c.in_err-counter.ensures.answer in
     let one = all_taken_false p.t (public_drawn p seed) i (below (goal.at.returns-in_err-counter c).After-next_vector) none.not_taken in
-    record { answer = handed_as c.from_residual.result c.from_residual.ensures.1 ∙ refuse_not_taken accepted one none.five; result = λ t. absurd (true_false t one) }
+    record {
+      answer = handed_as c.from_residual.result c.from_residual.ensures.1 ∙ refuse_not_taken accepted one none.five;
+      result = λ t. absurd (true_false t one);
+    }
 
 pub loop-i-preserved : goal.loop-i-preserved
 loop-i-preserved c =

@@ -5,4 +5,5 @@ use Rattle.sponge.proofs.Encoding.{fed_as, right_parts}
 use Rattle.sponge.proofs.state.Sponge.feed_right.Goals as goal
 
 pub returns : goal.returns
-returns c = fed_as (right_parts c.args.x c.first_digit-first.result c.to_be_bytes.ensures c.first_digit-first.ensures.1) (fed_then c.feed.ensures c.feed-2.ensures)
+returns c =
+    fed_as (right_parts c.args.x c.first_digit-first.result c.to_be_bytes.ensures c.first_digit-first.ensures.1) (fed_then c.feed.ensures c.feed-2.ensures)
