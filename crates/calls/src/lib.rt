@@ -71,7 +71,7 @@ impl Refusal {
 // What an open call answers.
 pub type Answer = Result<(), Refusal>;
 
-// The index of the first number that is `limit` or more, or the length where there is none: a count, and no Option, since `passing` of specs/Checks.antt is one.
+// The index of the first number that is `limit` or more, or the length where there is none: a count and no Option, as `passing` of specs/Checks.antt is.
 pub fn first_at_least(xs: &[u32], limit: u32) -> usize
     ensures { result ≡ passing (below limit) 0 xs.now }
 {

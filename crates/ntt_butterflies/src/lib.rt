@@ -57,6 +57,7 @@ pub fn twiddled_butterfly(
 }
 
 // The butterfly with one twiddle factor, that u is the scaled form of; the other two are 1.
+// Apart from the other, which takes four products where one is enough here.
 pub fn plain_butterfly(
     a: u32,
     b: u32,

@@ -124,7 +124,7 @@ fn word_at(bytes: &[u8], j: usize) -> u32
     u32::from_le_bytes([bytes[j], bytes[j + 1], bytes[j + 2], bytes[j + 3]])
 }
 
-// The same near the end, where some of them may be past it.
+// The same near the end, where some of them may be past it. Apart from the other two: four reads, each with a test, where `word_at` is one without any.
 fn last_word_at(bytes: &[u8], j: usize) -> u32
     requires { j < 2 ^ 63 }
     ensures { result ≡ four_bytes bytes.now j }
@@ -157,7 +157,7 @@ fn number_of(bytes: &[u8], i: usize, kept: u32, cmp: u32) -> u32
     bit_fields::number_in(word, (bits % 8) as u32, kept, cmp)
 }
 
-// Number k of the eight that begin with byte j, far from the end.
+// Number k of the eight that begin with byte j, far from the end. Apart from `number_of`, which tests for the end of the bytes at each number.
 fn number_in_group(bytes: &[u8], j: usize, k: usize, kept: u32, cmp: u32) -> u32
     requires { (j + 32 ≤ length bytes.now) × (k < 8) × (kept + cmp ≤ 24) }
     ensures { result ≡ four_bytes bytes.now (j + k * kept / 8) / 2 ^ (k * kept % 8) % 2 ^ kept * 2 ^ cmp }

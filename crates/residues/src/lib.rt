@@ -1,7 +1,7 @@
 // Arithmetic modulo any q below 2^24: the one place where a number is reduced, and the rounding of a residue to a bit.
 #![tactic(auto)]
 
-ghost use Rattle.std.specs.Prelude.{◌≡◌, ◌+◌, ◌-◌, ◌*◌, ◌/◌, ◌%◌, ◌^◌, ◌≤◌, ◌<◌, pos, ◌+ℤ◌, nat_abs};
+ghost use Rattle.std.specs.Prelude.{◌≡◌, true, ◌↔◌, ◌+◌, ◌-◌, ◌*◌, ◌/◌, ◌%◌, ◌^◌, ◌≤◌, ◌<◌, pos, ◌+ℤ◌, nat_abs};
 ghost use Rattle.maths.specs.Integer.{residue};
 ghost use Rattle.maths.specs.Rounding.{threshold_bit_of};
 
@@ -88,12 +88,19 @@ fn divided_remainder(x: u64, q: u32) -> u32
     (x % (q as u64)) as u32
 }
 
+// Whether remainders by q are made by multiplication, whose proofs hold from 2^16 to below 2^23.
+fn by_multiplication(q: u32) -> bool
+    ensures { result ≡ true ↔ (2 ^ 16 ≤ q) × (q < 2 ^ 23) }
+{
+    65536 <= q && q < 8388608
+}
+
 // The remainder of a number of 64 bits. The q of sets 1 to 12 are between 2^16 and 2^23: there the time depends on q alone, which is public.
 pub fn reduce(x: u64, q: u32) -> u32
     requires { 0 < q }
     ensures { result ≡ x % q }
 {
-    if 65536 <= q && q < 8388608 {
+    if by_multiplication(q) {
         long_remainder(x, q)
     } else {
         divided_remainder(x, q)
@@ -105,7 +112,7 @@ fn reduce_product(x: u64, q: u32) -> u32
     requires { (x < 2 ^ 48) × (0 < q) }
     ensures { result ≡ x % q }
 {
-    if 65536 <= q && q < 8388608 {
+    if by_multiplication(q) {
         short_remainder(x, q)
     } else {
         divided_remainder(x, q)
@@ -133,7 +140,7 @@ pub fn reduce_scaled(x: u32, q: u32, scale: u64) -> u32
     requires { (x < 2 ^ 24) × (0 < q) × (scale ≡ 2 ^ 48 / q + 1) }
     ensures { result ≡ x % q }
 {
-    if 65536 <= q && q < 8388608 {
+    if by_multiplication(q) {
         scaled_remainder(x, q, scale)
     } else {
         divided_remainder(x as u64, q)

@@ -14,7 +14,7 @@ pub fn half_modulus(p: Parameters) -> u32
     (p.q - 1) / 2
 }
 
-// The size of transform number i.
+// The size of transform number i. A number, since 003 numbers its transforms and the function holds for any number.
 pub fn transform_size(p: Parameters, i: usize) -> usize
     ensures { result ≡ transform_size_of p i }
 {

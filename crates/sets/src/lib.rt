@@ -11,6 +11,7 @@ pub mod derived;
 #[derive(Clone, Copy)]
 pub struct Parameters {
     // 1 for a set of the encryption scheme, 2 for one of the key exchange, 0 for Bench
+    // A number, since `derived::secret_key_bytes` and `ciphertext_bytes` hold for a record with any number here: an enum would ask more of callers.
     pub scheme: u32,
     // the modulus, an odd prime
     pub q: u32,
