@@ -4,19 +4,9 @@ use mathlib.Core.Path.{sym, ◌∙◌}
 use Prim.Native.Nat.{◌<◌}
 use native.Mathlib.Omega.{arith}
 use lib.ListN.{length}
-use Rattle.calls.proofs.Written.{written_none}
 use Rattle.ntt_plain.proofs.Steps.{row_start, rows_length, row_summable}
 use Rattle.ntt_plain.proofs.Lazily.{lazily_all, rows_more}
 use Rattle.ntt_plain.proofs.fill_rows.Goals as goal
-
-pub loop-i-init : goal.loop-i-init
-loop-i-init c = written_none _ _ _ _
-
-pub nonzero_rem-i : goal.nonzero_rem-i
-nonzero_rem-i c = let pre = c.requires in omega (arith, pre.0.some_columns)
-
-pub nonzero_div-i : goal.nonzero_div-i
-nonzero_div-i c = let pre = c.requires in omega (arith, pre.0.some_columns)
 
 pub overflow_mul-i : goal.overflow_mul-i
 overflow_mul-i c = let turn = c.loop-i in omega (arith, row_start c.args.row turn.i)

@@ -1,19 +1,7 @@
 -- `ntt_plain::settling_factor` meets its contract: each of the four products is one with 2^32.
 -- Assumes nothing.
-use Rattle.ntt_plain.proofs.Lazily.{settling, scale_below}
+use Rattle.ntt_plain.proofs.Lazily.{settling}
 use Rattle.ntt_plain.proofs.settling_factor.Goals as goal
-
-pub product-once-requires : goal.product-once-requires
-product-once-requires c = scale_below c.args.reducer.modulus.modulus c.requires
-
-pub product-twice-requires : goal.product-twice-requires
-product-twice-requires c = scale_below c.args.reducer.modulus.modulus c.requires
-
-pub product-thrice-requires : goal.product-thrice-requires
-product-thrice-requires c = scale_below c.args.reducer.modulus.modulus c.requires
-
-pub settle_number-requires : goal.settle_number-requires
-settle_number-requires c = scale_below c.args.reducer.modulus.modulus c.requires
 
 pub returns : goal.returns
 returns c =

@@ -4,13 +4,9 @@ use mathlib.Core.Path.{sym}
 use Prim.Native.Nat.{◌<◌}
 use native.Mathlib.Omega.{arith}
 use lib.ListN.{length}
-use Rattle.calls.proofs.Written.{written_none}
 use Rattle.ntt_plain.proofs.Steps.{twisted_length}
 use Rattle.ntt_plain.proofs.Lazily.{lazily_all, twisted_more}
 use Rattle.ntt_plain.proofs.twist.Goals as goal
-
-pub loop-i-init : goal.loop-i-init
-loop-i-init c = written_none _ _ _ _
 
 pub product-requires : goal.product-requires
 product-requires c =

@@ -7,7 +7,6 @@ use native.Mathlib.Omega.{arith}
 use lib.ListN.{take}
 use Rattle.sets.proofs.Rules.{listed_rules}
 use Rattle.ntt_products.specs.Stored.{sent, products}
-use Rattle.ntt_products.proofs.Sizes.{rules_odd}
 use Rattle.ntt_products.proofs.Vectors.{sent_placed, factors}
 use Rattle.ntt_products.proofs.Correlations.{products_recoverable, products_recovered}
 use Rattle.ntt_products.proofs.correlate.Goals.{After-multiply, After-send_front}
@@ -29,11 +28,6 @@ products_are c =
 pub send_front-requires : goal.send_front-requires
 send_front-requires c =
     (listed_rules c.args.p c.requires.0, c.requires.1.lent, c.requires.2)
-
-pub new-requires : goal.new-requires
-new-requires c =
-    let p = c.args.p in
-    rules_odd p (listed_rules p c.requires.0)
 
 pub multiply-requires : goal.multiply-requires
 multiply-requires c =

@@ -12,12 +12,6 @@ use Rattle.ntt_products.proofs.multiply.Goals as goal
 pub loop-j-init : goal.loop-j-init
 loop-j-init c = filled_none (products_length _ _ _) (omega arith)
 
-pub settle_number-requires : goal.settle_number-requires
-settle_number-requires c =
-    let turn = c.loop-j in
-    let below : turn.j < length c.args.x.now = omega (arith, turn.invariant.kept_length, c.loop-j-test.true) in
-    c.requires.1.each turn.j below
-
 pub loop-j-preserved : goal.loop-j-preserved
 loop-j-preserved c =
     let turn = c.loop-j in

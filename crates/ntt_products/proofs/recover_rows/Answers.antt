@@ -2,16 +2,11 @@
 -- Assumes nothing.
 use Rattle.sets.proofs.Rules.{listed_rules}
 use Rattle.ntt_products.proofs.RowsBack.{rows_recoverable, rows_recovered}
-use Rattle.ntt_products.proofs.Sizes.{rules_odd}
 use Rattle.ntt_products.proofs.recover_rows.Goals as goal
 
 pub rows_of-requires : goal.rows_of-requires
 rows_of-requires c =
     listed_rules c.args.p c.requires.1
-
-pub new-requires : goal.new-requires
-new-requires c =
-    rules_odd _ (listed_rules c.args.p c.requires.1)
 
 pub inverse_rows-requires : goal.inverse_rows-requires
 inverse_rows-requires c =

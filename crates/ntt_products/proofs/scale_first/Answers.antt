@@ -1,13 +1,7 @@
 -- `ntt_products::scale_first` meets its contract: 2^64 is the scaled form of 2^32, and a product with 2^32 is a scaled form.
 -- Assumes nothing.
-use native.Mathlib.Nat.{mod-lt}
-use native.Mathlib.Omega.{arith}
 use Rattle.ntt_products.proofs.SentScaled.{scaled_front}
 use Rattle.ntt_products.proofs.scale_first.Goals as goal
-
-pub settle-requires : goal.settle-requires
-settle-requires c =
-    rw (c.scaled_scale-by.ensures, c.new.ensures) (mod-lt _ (omega (arith, c.requires.0.some)))
 
 pub returns : goal.returns
 returns c =
