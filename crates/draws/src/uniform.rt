@@ -45,6 +45,7 @@ pub fn look(bytes: &[u8], q: u32, threshold: u32, wanted: usize) -> Answer
 {
     let mut position: usize = 0;
     for i in 0..wanted {
+        // a draw is taken apart by `let .. else`, the form that the scope names for its callers
         let drawn = draw_one(bytes, position, q, threshold, 0);
         let Ok((_, next)) = drawn else {
             return Err(drawn.unwrap_err().at(i as u32));

@@ -40,6 +40,7 @@ pub fn continue_draw(
     let mut position: usize = 0;
     let mut run = before;
     for done in from..out.len() {
+        // a draw is taken apart by `let .. else`, the form that the scope names for its callers
         let drawn = draws::uniform::draw_one(bytes, position, q, threshold, run);
         let Ok((residue, next)) = drawn else {
             return stopped_at(drawn.unwrap_err(), done, run, bytes.len() - position);
