@@ -50,7 +50,3 @@ module _ {P : ℕ → ℕ → Type 0} {start size : ℕ} {old : List ℕ} {i : �
         others = λ j h.
             get_or-set_other to k j v 0 (λ e. outside h i (omega arith) (e ∙ place)) ∙ t.others j (outside_fewer h (omega arith));
       }
-
-  -- places outside of all that are to be written
-  pub written_others : (k : ℕ) → (k < start) ⊎ (start + size ≤ k) → at to k ≡ at old k
-  written_others k h = t.others k (outside_fewer h t.within)

@@ -17,10 +17,6 @@ pub record Reciprocal (q m : ℕ) : Type 0 where
 pub reciprocal : {q : ℕ} → 0 < q → Reciprocal q (2 ^ 48 / q)
 reciprocal {q} h = record { most = div-mul-le_self (2 ^ 48) q; least = omega (arith, lt-div-mul-add {a = 2 ^ 48} {b = q} h) }
 
--- for a q from 2^16 it is at most 2^32
-pub reciprocal_most : {q m : ℕ} → Reciprocal q m → 2 ^ 16 ≤ q → m ≤ 2 ^ 32
-reciprocal_most {q} {m} inverse large = omega (arith, inverse.most, mul-le-mul_left m large)
-
 -- the quotient of x by q, estimated by a reciprocal m of q
 abbrev pub estimate : ℕ → ℕ → ℕ
 estimate m x = x / 65536 * m / 4294967296
@@ -30,10 +26,6 @@ scaled : (a p r t q : ℕ) → p + q ≤ t * 4294967296 + q * 4294967296 → a *
 scaled a p r t q h k l z = omega arith
 
 module _ {q m x : ℕ} (inverse : Reciprocal q m) (small : x < 2 ^ 48) where
-  -- the product that gives the estimate fits 64 bits
-  pub estimate_fits : 2 ^ 16 ≤ q → x / 65536 * m < 2 ^ 64
-  estimate_fits large = omega (arith, mul-le-mul_left (x / 65536) (reciprocal_most inverse large))
-
   -- the estimate is no greater than the quotient
   pub estimate_most : estimate m x * q ≤ x
   estimate_most =

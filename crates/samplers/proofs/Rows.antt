@@ -86,10 +86,6 @@ module _ (p : Parameters) (bytes : List ℕ) where
             written = again (rw w.size at next) w.size;
           }
 
-    -- the next row begins where this one ends
-    pub rows_next : i ≡ r * (p.d + p.k) + (p.d + p.k) → Rows p bytes (r + 1) i out × (i ≡ (r + 1) * (p.d + p.k))
-    rows_next e = (record { from = omega arith; to = omega arith; size = w.size; written = w.written }, omega arith)
-
   -- after the last row
   pub rows_all : {r i : ℕ} {out : List ℕ} → Rows p bytes r i out → p.t ≤ r → out ≡ map (residue p.q) (errors_of p bytes)
   unfolding error_count_of
