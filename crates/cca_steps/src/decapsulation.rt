@@ -79,12 +79,12 @@ fn key_of_message<'a>(
     expanded: &'a [u8; 64],
     message: &'a [u8; 32],
     again: &mut [u8],
-    shared: &mut [u8],
+    shared: &mut [u8; 32],
     work: &mut [u32],
 ) -> Answer
     requires { ByteRules p × Listed p × (length secret.now ≡ 32 + public_key_bytes_of p)
         × (length ciphertext.now ≡ cpa_ciphertext_bytes_of p + 32)
-        × (length again.old ≡ cpa_ciphertext_bytes_of p + 32) × (length shared.old ≡ 32) × (length work.old ≡ work_length_of p) }
+        × (length again.old ≡ cpa_ciphertext_bytes_of p + 32) × (length work.old ≡ work_length_of p) }
     ensures answer { outcome result ≡ encrypt_draws p (drop 32 secret.now) }
     ensures agreed { shared.new ≡ leaves (encrypt_draws p (drop 32 secret.now))
         (key_of_message_of p (drop 32 secret.now) message.now (drop 32 expanded.now) ciphertext.now)
@@ -102,14 +102,14 @@ fn decapsulated_with_buffers(
     p: Parameters,
     secret: &[u8],
     ciphertext: &[u8],
-    shared: &mut [u8],
+    shared: &mut [u8; 32],
     work: &mut [u32],
     expanded: &mut [u8; 64],
     message: &mut [u8; 32],
     again: &mut [u8],
 ) -> Answer
     requires { ByteRules p × Listed p × (length secret.now ≡ 32 + public_key_bytes_of p)
-        × (length ciphertext.now ≡ cpa_ciphertext_bytes_of p + 32) × (length shared.old ≡ 32) × (length work.old ≡ work_length_of p)
+        × (length ciphertext.now ≡ cpa_ciphertext_bytes_of p + 32) × (length work.old ≡ work_length_of p)
         × (length again.old ≡ cpa_ciphertext_bytes_of p + 32) }
     ensures answer { outcome result ≡ decapsulate_draws p secret.now }
     ensures agreed { shared.new ≡ leaves (decapsulate_draws p secret.now)
@@ -129,11 +129,11 @@ pub fn decapsulated_key(
     p: Parameters,
     secret: &[u8],
     ciphertext: &[u8],
-    shared: &mut [u8],
+    shared: &mut [u8; 32],
     work: &mut [u32],
 ) -> Answer
     requires { ByteRules p × Listed p × (length secret.now ≡ 32 + public_key_bytes_of p)
-        × (length ciphertext.now ≡ cpa_ciphertext_bytes_of p + 32) × (length shared.old ≡ 32) × (length work.old ≡ work_length_of p) }
+        × (length ciphertext.now ≡ cpa_ciphertext_bytes_of p + 32) × (length work.old ≡ work_length_of p) }
     ensures answer { outcome result ≡ decapsulate_draws p secret.now }
     ensures agreed { shared.new ≡ leaves (decapsulate_draws p secret.now)
         (decapsulated p secret.now ciphertext.now) shared.old }

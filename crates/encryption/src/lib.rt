@@ -40,7 +40,13 @@ pub fn key(
         secret.len(),
         work.len(),
     )?;
-    let answer = cpa_keygen::keygen(p, seed, public, secret, work);
+    let answer = cpa_keygen::keygen(
+        p,
+        seed.as_array().unwrap(),
+        public,
+        secret.as_mut_array().unwrap(),
+        work,
+    );
     calls::clear(work);
     answer
 }
@@ -70,7 +76,14 @@ pub fn encrypt(
         ciphertext.len(),
         work.len(),
     )?;
-    let answer = cpa_encrypt::encrypt(p, public, message, seed, ciphertext, work);
+    let answer = cpa_encrypt::encrypt(
+        p,
+        public,
+        message.as_array().unwrap(),
+        seed.as_array().unwrap(),
+        ciphertext,
+        work,
+    );
     calls::clear(work);
     answer
 }

@@ -72,9 +72,9 @@ fn write_unpacked(
     if public.len() != sets::derived::public_key_bytes(p) {
         return;
     }
-    if seed.len() != 32 {
+    let Some(seed) = seed.as_array() else {
         return;
-    }
+    };
     if out.len() != p.d {
         return;
     }

@@ -16,7 +16,7 @@ drawn c = sym c.in_ok-keygen.ensures.answer
 pub keygen-requires : goal.keygen-requires
 keygen-requires c =
     let pre = c.requires in
-    (pre.0, pre.1, pre.2, pre.5, c.told-secret, pre.7)
+    (pre.0, pre.1, pre.2, pre.4)
 
 pub returns-in_err-keygen : goal.returns-in_err-keygen
 returns-in_err-keygen c =
@@ -27,7 +27,7 @@ pub encrypt-requires : goal.encrypt-requires
 encrypt-requires c =
     let pre = c.requires in
     let kept = c.keygen.auto in
-    (pre.0, pre.1, kept.public_key ∙ pre.5, pre.3, pre.4, pre.6, kept.work ∙ pre.7)
+    (pre.0, pre.1, kept.public_key ∙ pre.2, pre.3, kept.work ∙ pre.4)
 
 pub decrypt-requires : goal.decrypt-requires
 decrypt-requires c =
@@ -36,8 +36,8 @@ decrypt-requires c =
     let second = c.encrypt.auto in (
       pre.0,
       pre.1,
-      second.ciphertext ∙ pre.6,
-      second.work ∙ first.work ∙ pre.7,
+      second.ciphertext ∙ pre.3,
+      second.work ∙ first.work ∙ pre.4,
     )
 
 pub returns : goal.returns

@@ -23,13 +23,10 @@ noise_of-requires c =
     let pre = c.requires in (
       pre.0,
       pre.1,
-      pre.2,
-      pre.3,
-      pre.4,
       c.in_ok-read_message.ensures.key refl,
       (key_drawn c.args.p c.args.seed.now (drawn (goal.at.noise_of-requires c).In_ok-read_message)).0,
-      pre.7,
-      c.read_message.auto.work ∙ pre.10,
+      pre.4,
+      c.read_message.auto.work ∙ pre.7,
     )
 
 pub returns : goal.returns
@@ -40,5 +37,5 @@ returns c =
     let values = c.noise_of.ensures in record {
       answer = c.in_ok-read_message.ensures.answer;
       rows = λ _. rows_filled args.p args.seed.now args.message.now args.sealing.now _ _ _ _ _ _
-          values.values values.sizes c.bits_of.ensures pre.8 c.bits_of-2.ensures pre.9 opened;
+          values.values values.sizes c.bits_of.ensures pre.5 c.bits_of-2.ensures pre.6 opened;
     }
