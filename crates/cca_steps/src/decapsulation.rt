@@ -13,8 +13,7 @@ use calls::{Answer, Refusal};
 use sets::Parameters;
 
 // Expands a seed into the inner seed and the reject bytes, and the inner seed into the seed of the secret.
-fn expand_seed(p: Parameters, seed: &[u8], expanded: &mut [u8], inner: &mut [u8])
-    requires { (length seed.now ≡ 32) × (length expanded.old ≡ 64) × (length inner.old ≡ 32) }
+fn expand_seed(p: Parameters, seed: &[u8; 32], expanded: &mut [u8; 64], inner: &mut [u8; 32])
     ensures halves { expanded.new ≡ expanded_seed p seed.now }
     ensures secret { inner.new ≡ secret_seed p (inner_seed p seed.now) }
 {
@@ -27,20 +26,19 @@ fn decrypt_with_buffers(
     p: Parameters,
     secret: &[u8],
     ciphertext: &[u8],
-    expanded: &mut [u8],
-    message: &mut [u8],
+    expanded: &mut [u8; 64],
+    message: &mut [u8; 32],
     work: &mut [u32],
-    inner: &mut [u8],
+    inner: &mut [u8; 32],
 ) -> Answer
     requires { ByteRules p × Listed p × (length secret.now ≡ 32 + public_key_bytes_of p)
-        × (length ciphertext.now ≡ cpa_ciphertext_bytes_of p + 32) × (length expanded.old ≡ 64) × (length message.old ≡ 32)
-        × (length work.old ≡ work_length_of p) × (length inner.old ≡ 32) }
+        × (length ciphertext.now ≡ cpa_ciphertext_bytes_of p + 32) × (length work.old ≡ work_length_of p) }
     ensures answer { outcome result ≡ inner_draw p secret.now }
     ensures halves { expanded.new ≡ expanded_seed p (take 32 secret.now) }
     ensures read { message.new ≡ leaves (inner_draw p secret.now)
         (decapsulated_message p secret.now ciphertext.now) message.old }
 {
-    expand_seed(p, &secret[0..32], expanded, inner);
+    expand_seed(p, secret.first_chunk().unwrap(), expanded, inner);
     let n = ciphertext.len() - 32;
     cpa_decrypt::decrypt(p, inner, &ciphertext[0..n], message, work)
 }
@@ -50,13 +48,12 @@ fn decrypt(
     p: Parameters,
     secret: &[u8],
     ciphertext: &[u8],
-    expanded: &mut [u8],
-    message: &mut [u8],
+    expanded: &mut [u8; 64],
+    message: &mut [u8; 32],
     work: &mut [u32],
 ) -> Answer
     requires { ByteRules p × Listed p × (length secret.now ≡ 32 + public_key_bytes_of p)
-        × (length ciphertext.now ≡ cpa_ciphertext_bytes_of p + 32) × (length expanded.old ≡ 64) × (length message.old ≡ 32)
-        × (length work.old ≡ work_length_of p) }
+        × (length ciphertext.now ≡ cpa_ciphertext_bytes_of p + 32) × (length work.old ≡ work_length_of p) }
     ensures answer { outcome result ≡ inner_draw p secret.now }
     ensures halves { expanded.new ≡ expanded_seed p (take 32 secret.now) }
     ensures read { message.new ≡ leaves (inner_draw p secret.now)
@@ -70,7 +67,7 @@ fn decrypt(
         expanded,
         message,
         work,
-        &mut inner[0..32],
+        &mut inner,
     )
 }
 
@@ -79,15 +76,15 @@ fn key_of_message<'a>(
     p: Parameters,
     secret: &[u8],
     ciphertext: &[u8],
-    expanded: &'a [u8],
-    message: &'a [u8],
+    expanded: &'a [u8; 64],
+    message: &'a [u8; 32],
     again: &mut [u8],
-    shared: &mut [u8],
+    shared: &mut [u8; 32],
     work: &mut [u32],
 ) -> Answer
     requires { ByteRules p × Listed p × (length secret.now ≡ 32 + public_key_bytes_of p)
-        × (length ciphertext.now ≡ cpa_ciphertext_bytes_of p + 32) × (length expanded.now ≡ 64) × (length message.now ≡ 32)
-        × (length again.old ≡ cpa_ciphertext_bytes_of p + 32) × (length shared.old ≡ 32) × (length work.old ≡ work_length_of p) }
+        × (length ciphertext.now ≡ cpa_ciphertext_bytes_of p + 32)
+        × (length again.old ≡ cpa_ciphertext_bytes_of p + 32) × (length work.old ≡ work_length_of p) }
     ensures answer { outcome result ≡ encrypt_draws p (drop 32 secret.now) }
     ensures agreed { shared.new ≡ leaves (encrypt_draws p (drop 32 secret.now))
         (key_of_message_of p (drop 32 secret.now) message.now (drop 32 expanded.now) ciphertext.now)
@@ -105,15 +102,15 @@ fn decapsulated_with_buffers(
     p: Parameters,
     secret: &[u8],
     ciphertext: &[u8],
-    shared: &mut [u8],
+    shared: &mut [u8; 32],
     work: &mut [u32],
-    expanded: &mut [u8],
-    message: &mut [u8],
+    expanded: &mut [u8; 64],
+    message: &mut [u8; 32],
     again: &mut [u8],
 ) -> Answer
     requires { ByteRules p × Listed p × (length secret.now ≡ 32 + public_key_bytes_of p)
-        × (length ciphertext.now ≡ cpa_ciphertext_bytes_of p + 32) × (length shared.old ≡ 32) × (length work.old ≡ work_length_of p)
-        × (length expanded.old ≡ 64) × (length message.old ≡ 32) × (length again.old ≡ cpa_ciphertext_bytes_of p + 32) }
+        × (length ciphertext.now ≡ cpa_ciphertext_bytes_of p + 32) × (length work.old ≡ work_length_of p)
+        × (length again.old ≡ cpa_ciphertext_bytes_of p + 32) }
     ensures answer { outcome result ≡ decapsulate_draws p secret.now }
     ensures agreed { shared.new ≡ leaves (decapsulate_draws p secret.now)
         (decapsulated p secret.now ciphertext.now) shared.old }
@@ -132,11 +129,11 @@ pub fn decapsulated_key(
     p: Parameters,
     secret: &[u8],
     ciphertext: &[u8],
-    shared: &mut [u8],
+    shared: &mut [u8; 32],
     work: &mut [u32],
 ) -> Answer
     requires { ByteRules p × Listed p × (length secret.now ≡ 32 + public_key_bytes_of p)
-        × (length ciphertext.now ≡ cpa_ciphertext_bytes_of p + 32) × (length shared.old ≡ 32) × (length work.old ≡ work_length_of p) }
+        × (length ciphertext.now ≡ cpa_ciphertext_bytes_of p + 32) × (length work.old ≡ work_length_of p) }
     ensures answer { outcome result ≡ decapsulate_draws p secret.now }
     ensures agreed { shared.new ≡ leaves (decapsulate_draws p secret.now)
         (decapsulated p secret.now ciphertext.now) shared.old }
@@ -151,8 +148,8 @@ pub fn decapsulated_key(
         ciphertext,
         shared,
         work,
-        &mut expanded[0..64],
-        &mut message[0..32],
+        &mut expanded,
+        &mut message,
         &mut again[0..n],
     )
 }

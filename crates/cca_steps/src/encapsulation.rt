@@ -15,13 +15,13 @@ use sets::Parameters;
 fn encapsulate_digest(
     p: Parameters,
     public: &[u8],
-    message: &[u8],
-    digest: &[u8],
+    message: &[u8; 32],
+    digest: &[u8; 64],
     ciphertext: &mut [u8],
     work: &mut [u32],
 ) -> Answer
-    requires { ByteRules p × Listed p × (length public.now ≡ public_key_bytes_of p) × (length message.now ≡ 32)
-        × (length digest.now ≡ 64) × (digest.now ≡ shake256 message.now 64)
+    requires { ByteRules p × Listed p × (length public.now ≡ public_key_bytes_of p)
+        × (digest.now ≡ shake256 message.now 64)
         × (length ciphertext.old ≡ cpa_ciphertext_bytes_of p + 32) × (length work.old ≡ work_length_of p) }
     ensures answer { outcome result ≡ encrypt_draws p public.now }
     ensures given { ciphertext.new ≡ leaves (encrypt_draws p public.now)
@@ -32,7 +32,7 @@ fn encapsulate_digest(
         p,
         public,
         message,
-        &digest[0..32],
+        digest.first_chunk().unwrap(),
         &mut ciphertext[0..n],
         work,
     )?;
@@ -44,14 +44,13 @@ fn encapsulate_digest(
 fn encapsulate_with_buffers(
     p: Parameters,
     public: &[u8],
-    message: &[u8],
+    message: &[u8; 32],
     ciphertext: &mut [u8],
     work: &mut [u32],
-    digest: &mut [u8],
+    digest: &mut [u8; 64],
 ) -> Answer
-    requires { ByteRules p × Listed p × (length public.now ≡ public_key_bytes_of p) × (length message.now ≡ 32)
-        × (length ciphertext.old ≡ cpa_ciphertext_bytes_of p + 32) × (length work.old ≡ work_length_of p)
-        × (length digest.old ≡ 64) }
+    requires { ByteRules p × Listed p × (length public.now ≡ public_key_bytes_of p)
+        × (length ciphertext.old ≡ cpa_ciphertext_bytes_of p + 32) × (length work.old ≡ work_length_of p) }
     ensures answer { outcome result ≡ encrypt_draws p public.now }
     ensures given { ciphertext.new ≡ leaves (encrypt_draws p public.now)
         (encapsulated p public.now message.now) ciphertext.old }
@@ -64,31 +63,31 @@ fn encapsulate_with_buffers(
 pub fn encapsulate(
     p: Parameters,
     public: &[u8],
-    message: &[u8],
+    message: &[u8; 32],
     ciphertext: &mut [u8],
     work: &mut [u32],
 ) -> Answer
-    requires { ByteRules p × Listed p × (length public.now ≡ public_key_bytes_of p) × (length message.now ≡ 32)
+    requires { ByteRules p × Listed p × (length public.now ≡ public_key_bytes_of p)
         × (length ciphertext.old ≡ cpa_ciphertext_bytes_of p + 32) × (length work.old ≡ work_length_of p) }
     ensures answer { outcome result ≡ encrypt_draws p public.now }
     ensures given { ciphertext.new ≡ leaves (encrypt_draws p public.now)
         (encapsulated p public.now message.now) ciphertext.old }
 {
     let mut digest = [0u8; 64];
-    encapsulate_with_buffers(p, public, message, ciphertext, work, &mut digest[0..64])
+    encapsulate_with_buffers(p, public, message, ciphertext, work, &mut digest)
 }
 
 // Encapsulates a message, and hashes it with the ciphertext into the shared key.
 pub fn encapsulated_key(
     p: Parameters,
     public: &[u8],
-    message: &[u8],
+    message: &[u8; 32],
     ciphertext: &mut [u8],
-    shared: &mut [u8],
+    shared: &mut [u8; 32],
     work: &mut [u32],
 ) -> Answer
-    requires { ByteRules p × Listed p × (length public.now ≡ public_key_bytes_of p) × (length message.now ≡ 32)
-        × (length ciphertext.old ≡ cpa_ciphertext_bytes_of p + 32) × (length shared.old ≡ 32) × (length work.old ≡ work_length_of p) }
+    requires { ByteRules p × Listed p × (length public.now ≡ public_key_bytes_of p)
+        × (length ciphertext.old ≡ cpa_ciphertext_bytes_of p + 32) × (length work.old ≡ work_length_of p) }
     ensures answer { outcome result ≡ encrypt_draws p public.now }
     ensures given { ciphertext.new ≡ leaves (encrypt_draws p public.now)
         (encapsulated p public.now message.now) ciphertext.old }

@@ -13,16 +13,15 @@ use sets::Parameters;
 // Makes the keys of a seed; `expanded` is lent for the inner seed and the reject bytes, `inner` for the inner secret key.
 fn keygen_with_buffers(
     p: Parameters,
-    seed: &[u8],
+    seed: &[u8; 32],
     public: &mut [u8],
     secret: &mut [u8],
     work: &mut [u32],
-    expanded: &mut [u8],
-    inner: &mut [u8],
+    expanded: &mut [u8; 64],
+    inner: &mut [u8; 32],
 ) -> Answer
-    requires { ByteRules p × Listed p × (length seed.now ≡ 32) × (length public.old ≡ public_key_bytes_of p)
-        × (length secret.old ≡ 32 + public_key_bytes_of p) × (length work.old ≡ work_length_of p)
-        × (length expanded.old ≡ 64) × (length inner.old ≡ 32) }
+    requires { ByteRules p × Listed p × (length public.old ≡ public_key_bytes_of p)
+        × (length secret.old ≡ 32 + public_key_bytes_of p) × (length work.old ≡ work_length_of p) }
     ensures answer { outcome result ≡ key_draws p (inner_seed p seed.now) }
     ensures given { public.new ≡ leaves (key_draws p (inner_seed p seed.now))
         (exchange_public_key p seed.now) public.old }
@@ -30,7 +29,7 @@ fn keygen_with_buffers(
         (exchange_secret_key p seed.now) secret.old }
 {
     byte_source::source_bytes(p, seed, 0, expanded);
-    cpa_keygen::keygen(p, &expanded[0..32], public, inner, work)?;
+    cpa_keygen::keygen(p, expanded.first_chunk().unwrap(), public, inner, work)?;
     cca_bytes::write_both(secret, seed, public);
     Ok(())
 }
@@ -38,12 +37,12 @@ fn keygen_with_buffers(
 // Makes the keys of a seed.
 pub fn keygen(
     p: Parameters,
-    seed: &[u8],
+    seed: &[u8; 32],
     public: &mut [u8],
     secret: &mut [u8],
     work: &mut [u32],
 ) -> Answer
-    requires { ByteRules p × Listed p × (length seed.now ≡ 32) × (length public.old ≡ public_key_bytes_of p)
+    requires { ByteRules p × Listed p × (length public.old ≡ public_key_bytes_of p)
         × (length secret.old ≡ 32 + public_key_bytes_of p) × (length work.old ≡ work_length_of p) }
     ensures answer { outcome result ≡ key_draws p (inner_seed p seed.now) }
     ensures given { public.new ≡ leaves (key_draws p (inner_seed p seed.now))
@@ -59,7 +58,7 @@ pub fn keygen(
         public,
         secret,
         work,
-        &mut expanded[0..64],
-        &mut inner[0..32],
+        &mut expanded,
+        &mut inner,
     )
 }

@@ -128,10 +128,10 @@ fn read_with_buffers(
     tables: &mut [u32],
     x: &mut [u32],
     bits: &mut [u32],
-    message: &mut [u8],
+    message: &mut [u8; 32],
 )
     requires { ByteRules p × Listed p × (length ciphertext.now ≡ cpa_ciphertext_bytes_of p) × Placed p 3 (transform_size_of p 3) stored.now
-        × (length tables.old ≡ table_length_of p 3) × (length x.old ≡ transform_size_of p 3) × (length bits.old ≡ p.d) × (length message.old ≡ 32) }
+        × (length tables.old ≡ table_length_of p 3) × (length x.old ≡ transform_size_of p 3) × (length bits.old ≡ p.d) }
     ensures { message.new ≡ decrypted_message_from p stored.now ciphertext.now }
 {
     read_bits(p, ciphertext, stored, tables, x, bits);
@@ -139,9 +139,8 @@ fn read_with_buffers(
 }
 
 // Reads the message of a ciphertext with the stored secret, with room for the transforms and the bits.
-fn read(p: Parameters, ciphertext: &[u8], stored: &[u32], message: &mut [u8])
-    requires { ByteRules p × Listed p × (length ciphertext.now ≡ cpa_ciphertext_bytes_of p) × Placed p 3 (transform_size_of p 3) stored.now
-        × (length message.old ≡ 32) }
+fn read(p: Parameters, ciphertext: &[u8], stored: &[u32], message: &mut [u8; 32])
+    requires { ByteRules p × Listed p × (length ciphertext.now ≡ cpa_ciphertext_bytes_of p) × Placed p 3 (transform_size_of p 3) stored.now }
     ensures { message.new ≡ decrypted_message_from p stored.now ciphertext.now }
 {
     let mut tables = [0u32; 3605];
@@ -163,13 +162,12 @@ fn read(p: Parameters, ciphertext: &[u8], stored: &[u32], message: &mut [u8])
 // Reads the message of a ciphertext with the seed of the secret; the work slice is lent for the stored secret.
 pub fn decrypt(
     p: Parameters,
-    seed: &[u8],
+    seed: &[u8; 32],
     ciphertext: &[u8],
-    message: &mut [u8],
+    message: &mut [u8; 32],
     work: &mut [u32],
 ) -> Answer
-    requires { ByteRules p × Listed p × (length seed.now ≡ 32) × (length ciphertext.now ≡ cpa_ciphertext_bytes_of p) × (length message.old ≡ 32)
-        × (length work.old ≡ work_length_of p) }
+    requires { ByteRules p × Listed p × (length ciphertext.now ≡ cpa_ciphertext_bytes_of p) × (length work.old ≡ work_length_of p) }
     ensures answer { outcome result ≡ secret_draw p seed.now }
     ensures read { message.new
         ≡ leaves (secret_draw p seed.now) (decrypted_message p seed.now ciphertext.now) message.old }

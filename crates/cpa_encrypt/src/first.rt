@@ -23,8 +23,8 @@ use samplers::Advance;
 use sets::Parameters;
 
 // Draws one public polynomial from the output of `counter` on and sends it.
-fn send_drawn(p: Parameters, tables: &[u32], seed: &[u8], counter: u32, y: &mut [u32]) -> Advance
-    requires { ByteRules p × Listed p × RootTables p 2 tables.now × (length seed.now ≡ 32) × (counter < 2 ^ 31) × (length y.old ≡ transform_size_of p 2) }
+fn send_drawn(p: Parameters, tables: &[u32], seed: &[u8; 32], counter: u32, y: &mut [u32]) -> Advance
+    requires { ByteRules p × Listed p × RootTables p 2 tables.now × (counter < 2 ^ 31) × (length y.old ≡ transform_size_of p 2) }
     ensures answer { onward seed.now result ≡ uniform_answer p (state_at seed.now counter) p.bytpca p.n }
     ensures result { (xs : List ℕ) → (uniform p (state_at seed.now counter) p.bytpca p.n).drawn ≡ taken xs → y.new ≡ sent p 2 xs }
 {
@@ -37,14 +37,14 @@ fn send_drawn(p: Parameters, tables: &[u32], seed: &[u8], counter: u32, y: &mut 
 // Adds up in `total` the products of the multiplier polynomials and the public polynomials, all of them sent; the first draw that is refused decides.
 fn sum_products(
     p: Parameters,
-    seed: &[u8],
+    seed: &[u8; 32],
     multipliers: &[u32],
     tables: &[u32],
     total: &mut [u32],
     x: &mut [u32],
     y: &mut [u32],
 ) -> Answer
-    requires { ByteRules p × Listed p × (length seed.now ≡ 32) × Multipliers p multipliers.now × RootTables p 2 tables.now
+    requires { ByteRules p × Listed p × Multipliers p multipliers.now × RootTables p 2 tables.now
         × (total.old ≡ replicate (transform_size_of p 2) 0) × (length x.old ≡ transform_size_of p 2) × (length y.old ≡ transform_size_of p 2) }
     ensures answer { outcome result ≡ refuse (not (all_taken p.t (public_drawn p seed.now))) 5 0 accepted }
     ensures result { outcome result ≡ accepted
@@ -64,7 +64,7 @@ fn sum_products(
 // The first part, with the tables of the root and the vectors on the way in lent slices.
 fn first_with_buffers(
     p: Parameters,
-    seed: &[u8],
+    seed: &[u8; 32],
     multipliers: &[u32],
     out: &mut [u8],
     tables: &mut [u32],
@@ -72,7 +72,7 @@ fn first_with_buffers(
     x: &mut [u32],
     y: &mut [u32],
 ) -> Answer
-    requires { ByteRules p × Listed p × (length seed.now ≡ 32) × Multipliers p multipliers.now × (length out.old ≡ first_bytes_of p)
+    requires { ByteRules p × Listed p × Multipliers p multipliers.now × (length out.old ≡ first_bytes_of p)
         × (length tables.old ≡ table_length_of p 2) × (length total.old ≡ transform_size_of p 2) × (length x.old ≡ transform_size_of p 2)
         × (length y.old ≡ transform_size_of p 2) }
     ensures answer { outcome result ≡ refuse (not (all_taken p.t (public_drawn p seed.now))) 5 0 accepted }
@@ -87,8 +87,8 @@ fn first_with_buffers(
 }
 
 // Writes the first part of a ciphertext, where no draw of a public polynomial is refused.
-pub fn encrypt_first(p: Parameters, seed: &[u8], multipliers: &[u32], out: &mut [u8]) -> Answer
-    requires { ByteRules p × Listed p × (length seed.now ≡ 32) × Multipliers p multipliers.now × (length out.old ≡ first_bytes_of p) }
+pub fn encrypt_first(p: Parameters, seed: &[u8; 32], multipliers: &[u32], out: &mut [u8]) -> Answer
+    requires { ByteRules p × Listed p × Multipliers p multipliers.now × (length out.old ≡ first_bytes_of p) }
     ensures answer { outcome result ≡ refuse (not (all_taken p.t (public_drawn p seed.now))) 5 0 accepted }
     ensures left { out.new ≡ leaves (refuse (not (all_taken p.t (public_drawn p seed.now))) 5 0 accepted)
         (packed_first p seed.now multipliers.now) out.old }

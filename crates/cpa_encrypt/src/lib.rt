@@ -33,13 +33,13 @@ fn read_key(p: Parameters, bytes: &[u8], numbers: &mut [u32]) -> bool
 // Writes both parts of a ciphertext, where no draw of a public polynomial is refused.
 fn encrypt_numbers(
     p: Parameters,
-    seed: &[u8],
+    seed: &[u8; 32],
     numbers: &[u32],
     multipliers: &[u32],
     message: &[u8],
     ciphertext: &mut [u8],
 ) -> Answer
-    requires { ByteRules p × Listed p × (length seed.now ≡ 32) × KeyResidues p numbers.now × Multipliers p multipliers.now
+    requires { ByteRules p × Listed p × KeyResidues p numbers.now × Multipliers p multipliers.now
         × (length ciphertext.old ≡ cpa_ciphertext_bytes_of p) }
     ensures answer { outcome result ≡ refuse (not (all_taken p.t (public_drawn p seed.now))) 5 0 accepted }
     ensures sealed { ciphertext.new ≡ leaves (refuse (not (all_taken p.t (public_drawn p seed.now))) 5 0 accepted)
@@ -60,8 +60,8 @@ fn encrypt_numbers(
 }
 
 // Holds the numbers of a public key and the multipliers of a seed, one after the other, in the work slice; false where a number of the key is q or more.
-fn load(p: Parameters, key: &[u8], seed: &[u8], work: &mut [u32]) -> bool
-    requires { ByteRules p × Listed p × (length key.now ≡ public_key_bytes_of p) × (length seed.now ≡ 32) × (length work.old ≡ work_length_of p) }
+fn load(p: Parameters, key: &[u8], seed: &[u8; 32], work: &mut [u32]) -> bool
+    requires { ByteRules p × Listed p × (length key.now ≡ public_key_bytes_of p) × (length work.old ≡ work_length_of p) }
     ensures answer { result ≡ only_residues p.q (scheme.key_numbers p key.now) }
     ensures held { Loaded p key.now seed.now work.new }
 {
@@ -77,12 +77,12 @@ fn load(p: Parameters, key: &[u8], seed: &[u8], work: &mut [u32]) -> bool
 pub fn encrypt(
     p: Parameters,
     key: &[u8],
-    message: &[u8],
-    seed: &[u8],
+    message: &[u8; 32],
+    seed: &[u8; 32],
     ciphertext: &mut [u8],
     work: &mut [u32],
 ) -> Answer
-    requires { ByteRules p × Listed p × (length key.now ≡ public_key_bytes_of p) × (length message.now ≡ 32) × (length seed.now ≡ 32)
+    requires { ByteRules p × Listed p × (length key.now ≡ public_key_bytes_of p)
         × (length ciphertext.old ≡ cpa_ciphertext_bytes_of p) × (length work.old ≡ work_length_of p) }
     ensures answer { outcome result ≡ encrypt_draws p key.now }
     ensures sealed { ciphertext.new ≡ leaves (encrypt_draws p key.now)
@@ -95,7 +95,7 @@ pub fn encrypt(
     }
     encrypt_numbers(
         p,
-        &key[0..32],
+        key.first_chunk().unwrap(),
         &work[0..keys],
         &work[keys..end],
         message,
@@ -108,12 +108,12 @@ pub fn numbers_before_packing(
     p: Parameters,
     key: &[u8],
     message: &[u8],
-    seed: &[u8],
+    seed: &[u8; 32],
     out: &mut [u32],
     work: &mut [u32],
 )
     requires { ByteRules p × Listed p × (length key.now ≡ public_key_bytes_of p) × (only_residues p.q (scheme.key_numbers p key.now) ≡ true)
-        × (length seed.now ≡ 32) × (length out.old ≡ p.d) × (length work.old ≡ work_length_of p) }
+        × (length out.old ≡ p.d) × (length work.old ≡ work_length_of p) }
     ensures { out.new ≡ scheme.encrypted_numbers p key.now message.now seed.now }
 {
     let keys = p.d1 * p.t;

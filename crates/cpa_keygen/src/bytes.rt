@@ -11,8 +11,8 @@ ghost use Rattle.cpa_keygen.specs.Held.{vectors_start_of};
 use sets::Parameters;
 
 // Writes the seed, and after it the stored vectors packed.
-pub fn write_public_key(p: Parameters, seed: &[u8], work: &[u32], out: &mut [u8])
-    requires byte_rules { ByteRules p × Listed p × (length seed.now ≡ 32) × (length work.now ≡ work_length_of p) × (length out.old ≡ public_key_bytes_of p) }
+pub fn write_public_key(p: Parameters, seed: &[u8; 32], work: &[u32], out: &mut [u8])
+    requires byte_rules { ByteRules p × Listed p × (length work.now ≡ work_length_of p) × (length out.old ≡ public_key_bytes_of p) }
     requires digit { Digit p.width (region work.now (vectors_start_of p) (p.d1 * p.t)) }
     ensures { out.new
         ≡ seed.now ++ pack p.width (packed_bytes_of (p.d1 * p.t) p.width) (region work.now (vectors_start_of p) (p.d1 * p.t)) }

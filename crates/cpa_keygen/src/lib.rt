@@ -24,8 +24,8 @@ mod bytes;
 mod vectors;
 
 // Draws the stored secret into the front of the work slice.
-fn draw_stored(p: Parameters, seed: &[u8], work: &mut [u32]) -> Advance
-    requires { ByteRules p × Listed p × (length seed.now ≡ 32) × (length work.old ≡ work_length_of p) }
+fn draw_stored(p: Parameters, seed: &[u8; 32], work: &mut [u32]) -> Advance
+    requires { ByteRules p × Listed p × (length work.old ≡ work_length_of p) }
     ensures answer { onward seed.now result ≡ answer_of (secret_drawn p seed.now) (secret_state p seed.now) }
     ensures result { is_taken (secret_drawn p seed.now) ≡ true → work.new ≡ over work.old 0 (stored_secret p seed.now) }
 {
@@ -34,8 +34,8 @@ fn draw_stored(p: Parameters, seed: &[u8], work: &mut [u32]) -> Advance
 }
 
 // Draws the errors into the places after the stored secret.
-fn draw_errors(p: Parameters, seed: &[u8], counter: u32, work: &mut [u32])
-    requires { ByteRules p × Listed p × (length seed.now ≡ 32) × (length work.old ≡ work_length_of p) × (counter < 2 ^ 31) }
+fn draw_errors(p: Parameters, seed: &[u8; 32], counter: u32, work: &mut [u32])
+    requires { ByteRules p × Listed p × (length work.old ≡ work_length_of p) × (counter < 2 ^ 31) }
     ensures { work.new ≡ over work.old p.d3 (map (residue p.q) (errors_drawn p (state_at seed.now counter))) }
 {
     let start = p.d3;
@@ -44,8 +44,8 @@ fn draw_errors(p: Parameters, seed: &[u8], counter: u32, work: &mut [u32])
 }
 
 // Draws the stored secret and the errors.
-fn draw_secret(p: Parameters, seed: &[u8], work: &mut [u32]) -> Answer
-    requires { ByteRules p × Listed p × (length seed.now ≡ 32) × (length work.old ≡ work_length_of p) }
+fn draw_secret(p: Parameters, seed: &[u8; 32], work: &mut [u32]) -> Answer
+    requires { ByteRules p × Listed p × (length work.old ≡ work_length_of p) }
     ensures answer { outcome result ≡ refuse (not (is_taken (secret_drawn p seed.now))) 5 0 accepted }
     ensures result { is_taken (secret_drawn p seed.now) ≡ true → SecretHeld p seed.now work.new }
 {
@@ -55,8 +55,8 @@ fn draw_secret(p: Parameters, seed: &[u8], work: &mut [u32]) -> Answer
 }
 
 // Draws the secret, the errors and the public polynomials, and stores the vectors of the public key in the work slice.
-fn store_key(p: Parameters, seedsk: &[u8], seedpk: &[u8], work: &mut [u32]) -> Answer
-    requires { ByteRules p × Listed p × (length seedsk.now ≡ 32) × (length seedpk.now ≡ 32) × (length work.old ≡ work_length_of p) }
+fn store_key(p: Parameters, seedsk: &[u8; 32], seedpk: &[u8; 32], work: &mut [u32]) -> Answer
+    requires { ByteRules p × Listed p × (length work.old ≡ work_length_of p) }
     ensures answer { outcome result ≡ refuse (not (is_taken (secret_drawn p seedsk.now))) 5 0
         (refuse (not (all_taken p.t (public_drawn p seedpk.now))) 5 0 accepted) }
     ensures result { outcome result ≡ accepted → region work.new (vectors_start_of p) (p.d1 * p.t)
@@ -69,15 +69,15 @@ fn store_key(p: Parameters, seedsk: &[u8], seedpk: &[u8], work: &mut [u32]) -> A
 // Makes a key by way of the two seeds, which are lent room.
 fn keygen_with_buffers(
     p: Parameters,
-    seed: &[u8],
+    seed: &[u8; 32],
     public_key: &mut [u8],
-    secret_seed: &mut [u8],
+    secret_seed: &mut [u8; 32],
     work: &mut [u32],
-    seedsk: &mut [u8],
-    seedpk: &mut [u8],
+    seedsk: &mut [u8; 32],
+    seedpk: &mut [u8; 32],
 ) -> Answer
-    requires { ByteRules p × Listed p × (length seed.now ≡ 32) × (length public_key.old ≡ public_key_bytes_of p) × (length secret_seed.old ≡ 32)
-        × (length work.old ≡ work_length_of p) × (length seedsk.old ≡ 32) × (length seedpk.old ≡ 32) }
+    requires { ByteRules p × Listed p × (length public_key.old ≡ public_key_bytes_of p)
+        × (length work.old ≡ work_length_of p) }
     ensures answer { outcome result ≡ key_draws p seed.now }
     ensures public { public_key.new ≡ leaves (key_draws p seed.now) (public_key_of p seed.now) public_key.old }
     ensures secret { secret_seed.new ≡ leaves (key_draws p seed.now) (secret_seed_of p seed.now) secret_seed.old }
@@ -93,12 +93,12 @@ fn keygen_with_buffers(
 // Makes the public key and the secret seed of a key seed.
 pub fn keygen(
     p: Parameters,
-    seed: &[u8],
+    seed: &[u8; 32],
     public_key: &mut [u8],
-    secret_seed: &mut [u8],
+    secret_seed: &mut [u8; 32],
     work: &mut [u32],
 ) -> Answer
-    requires { ByteRules p × Listed p × (length seed.now ≡ 32) × (length public_key.old ≡ public_key_bytes_of p) × (length secret_seed.old ≡ 32)
+    requires { ByteRules p × Listed p × (length public_key.old ≡ public_key_bytes_of p)
         × (length work.old ≡ work_length_of p) }
     ensures answer { outcome result ≡ key_draws p seed.now }
     ensures public { public_key.new ≡ leaves (key_draws p seed.now) (public_key_of p seed.now) public_key.old }
@@ -112,7 +112,7 @@ pub fn keygen(
         public_key,
         secret_seed,
         work,
-        &mut seedsk[0..32],
-        &mut seedpk[0..32],
+        &mut seedsk,
+        &mut seedpk,
     )
 }

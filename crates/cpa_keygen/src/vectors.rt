@@ -99,8 +99,8 @@ fn store_vector(p: Parameters, i: usize, tables: &[u32], x: &[u32], work: &mut [
 }
 
 // Draws the polynomial ā_i into the front of `x`.
-fn draw_polynomial(p: Parameters, seed: &[u8], i: usize, counter: u32, x: &mut [u32]) -> Advance
-    requires { ByteRules p × Listed p × (length seed.now ≡ 32) × (i < p.t) × (state_at seed.now counter ≡ public_state p seed.now i)
+fn draw_polynomial(p: Parameters, seed: &[u8; 32], i: usize, counter: u32, x: &mut [u32]) -> Advance
+    requires { ByteRules p × Listed p × (i < p.t) × (state_at seed.now counter ≡ public_state p seed.now i)
         × (length x.old ≡ transform_size_of p 3) }
     ensures answer { onward seed.now result ≡ answer_of (public_drawn p seed.now i) (public_state p seed.now (suc i)) }
     ensures result { is_taken (public_drawn p seed.now i) ≡ true → take p.n x.new ≡ public_polynomial p seed.now i }
@@ -112,7 +112,7 @@ fn draw_polynomial(p: Parameters, seed: &[u8], i: usize, counter: u32, x: &mut [
 // Draws the polynomial ā_i and stores b̂_i; `x` is lent for the way.
 fn next_vector(
     p: Parameters,
-    seed: &[u8],
+    seed: &[u8; 32],
     i: usize,
     counter: u32,
     tables: &[u32],
@@ -120,7 +120,7 @@ fn next_vector(
     x: &mut [u32],
     work: &mut [u32],
 ) -> Advance
-    requires { ByteRules p × Listed p × (length seed.now ≡ 32) × (i < p.t) × (state_at seed.now counter ≡ public_state p seed.now i)
+    requires { ByteRules p × Listed p × (i < p.t) × (state_at seed.now counter ≡ public_state p seed.now i)
         × RootTables p 3 tables.now × InverseTables p 1 inverse_tables.now × (length x.old ≡ transform_size_of p 3) × Held p work.old }
     ensures answer { onward seed.now result ≡ answer_of (public_drawn p seed.now i) (public_state p seed.now (suc i)) }
     ensures result { is_taken (public_drawn p seed.now i) ≡ true → work.new ≡ over work.old (vectors_start_of p + p.d1 * i)
@@ -135,13 +135,13 @@ fn next_vector(
 // Stores all vectors of a public key.
 fn all_vectors(
     p: Parameters,
-    seed: &[u8],
+    seed: &[u8; 32],
     tables: &[u32],
     inverse_tables: &[u32],
     x: &mut [u32],
     work: &mut [u32],
 ) -> Answer
-    requires { ByteRules p × Listed p × (length seed.now ≡ 32) × RootTables p 3 tables.now × InverseTables p 1 inverse_tables.now
+    requires { ByteRules p × Listed p × RootTables p 3 tables.now × InverseTables p 1 inverse_tables.now
         × (length x.old ≡ transform_size_of p 3) × Held p work.old }
     ensures answer { outcome result ≡ refuse (not (all_taken p.t (public_drawn p seed.now))) 5 0 accepted }
     ensures result { all_taken p.t (public_drawn p seed.now) ≡ true → work.new ≡ over work.old (vectors_start_of p)
@@ -157,13 +157,13 @@ fn all_vectors(
 // Fills the tables of the transforms, and stores all vectors of a public key.
 fn vectors_with_buffers(
     p: Parameters,
-    seed: &[u8],
+    seed: &[u8; 32],
     tables: &mut [u32],
     inverse_tables: &mut [u32],
     x: &mut [u32],
     work: &mut [u32],
 ) -> Answer
-    requires { ByteRules p × Listed p × (length seed.now ≡ 32) × (length tables.old ≡ table_length_of p 3)
+    requires { ByteRules p × Listed p × (length tables.old ≡ table_length_of p 3)
         × (length inverse_tables.old ≡ table_length_of p 1) × (length x.old ≡ transform_size_of p 3) × Held p work.old }
     ensures answer { outcome result ≡ refuse (not (all_taken p.t (public_drawn p seed.now))) 5 0 accepted }
     ensures result { all_taken p.t (public_drawn p seed.now) ≡ true → work.new ≡ over work.old (vectors_start_of p)
@@ -175,8 +175,8 @@ fn vectors_with_buffers(
 }
 
 // Stores all vectors of a public key, with room for the tables of the transforms and for the numbers on the way.
-pub fn store_vectors(p: Parameters, seed: &[u8], work: &mut [u32]) -> Answer
-    requires { ByteRules p × Listed p × (length seed.now ≡ 32) × Held p work.old }
+pub fn store_vectors(p: Parameters, seed: &[u8; 32], work: &mut [u32]) -> Answer
+    requires { ByteRules p × Listed p × Held p work.old }
     ensures answer { outcome result ≡ refuse (not (all_taken p.t (public_drawn p seed.now))) 5 0 accepted }
     ensures result { all_taken p.t (public_drawn p seed.now) ≡ true → work.new ≡ over work.old (vectors_start_of p)
         (joined p.t (stored_vector p seed.now work.old)) }

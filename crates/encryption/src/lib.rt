@@ -40,7 +40,13 @@ pub fn key(
         secret.len(),
         work.len(),
     )?;
-    let answer = cpa_keygen::keygen(p, seed, public, secret, work);
+    let answer = cpa_keygen::keygen(
+        p,
+        seed.as_array().unwrap(),
+        public,
+        secret.as_mut_array().unwrap(),
+        work,
+    );
     calls::clear(work);
     answer
 }
@@ -70,7 +76,14 @@ pub fn encrypt(
         ciphertext.len(),
         work.len(),
     )?;
-    let answer = cpa_encrypt::encrypt(p, public, message, seed, ciphertext, work);
+    let answer = cpa_encrypt::encrypt(
+        p,
+        public,
+        message.as_array().unwrap(),
+        seed.as_array().unwrap(),
+        ciphertext,
+        work,
+    );
     calls::clear(work);
     answer
 }
@@ -78,13 +91,12 @@ pub fn encrypt(
 // Refused with 3 when a number of c1 is q or more, else reads the message.
 fn decrypt_if_below(
     p: Parameters,
-    secret: &[u8],
+    secret: &[u8; 32],
     ciphertext: &[u8],
-    message: &mut [u8],
+    message: &mut [u8; 32],
     work: &mut [u32],
 ) -> Answer
-    requires { ByteRules p × Listed p × (length secret.now ≡ 32) × (length ciphertext.now ≡ cpa_ciphertext_bytes_of p)
-        × (length message.old ≡ 32) × (length work.old ≡ work_length_of p) }
+    requires { ByteRules p × Listed p × (length ciphertext.now ≡ cpa_ciphertext_bytes_of p) × (length work.old ≡ work_length_of p) }
     ensures answer { outcome result ≡ decrypt_draws p secret.now ciphertext.now }
     ensures read { message.new ≡ leaves (decrypt_draws p secret.now ciphertext.now)
         (decrypted_message p secret.now ciphertext.now) message.old }
@@ -118,7 +130,13 @@ pub fn decrypt(
         message.len(),
         work.len(),
     )?;
-    let answer = decrypt_if_below(p, secret, ciphertext, message, work);
+    let answer = decrypt_if_below(
+        p,
+        secret.as_array().unwrap(),
+        ciphertext,
+        message.as_mut_array().unwrap(),
+        work,
+    );
     calls::clear(work);
     answer
 }

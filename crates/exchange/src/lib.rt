@@ -36,7 +36,7 @@ pub fn key(
         secret.len(),
         work.len(),
     )?;
-    let answer = keygen::keygen(p, seed, public, secret, work);
+    let answer = keygen::keygen(p, seed.as_array().unwrap(), public, secret, work);
     calls::clear(work);
     answer
 }
@@ -68,7 +68,14 @@ pub fn encapsulate(
         ciphertext.len(),
         work.len(),
     )?;
-    let answer = encapsulation::encapsulated_key(p, public, message, ciphertext, shared, work);
+    let answer = encapsulation::encapsulated_key(
+        p,
+        public,
+        message.as_array().unwrap(),
+        ciphertext,
+        shared.as_mut_array().unwrap(),
+        work,
+    );
     calls::clear(work);
     answer
 }
@@ -96,7 +103,13 @@ pub fn decapsulate(
         shared.len(),
         work.len(),
     )?;
-    let answer = decapsulation::decapsulated_key(p, secret, ciphertext, shared, work);
+    let answer = decapsulation::decapsulated_key(
+        p,
+        secret,
+        ciphertext,
+        shared.as_mut_array().unwrap(),
+        work,
+    );
     calls::clear(work);
     answer
 }

@@ -7,7 +7,13 @@ use report::script::Line;
 use std::io;
 
 // Reads a ciphertext of Titanium-CPA, where every slice has the set's length.
-fn read(set: usize, seed: &[u8], sealed: &[u8], message: &mut [u8], work: &mut [u32]) -> Answer {
+fn read(
+    set: usize,
+    seed: &[u8],
+    sealed: &[u8],
+    message: &mut [u8; 32],
+    work: &mut [u32],
+) -> Answer {
     if set < 1 {
         return Err(Refusal::NoSuchSet);
     }
@@ -15,13 +21,10 @@ fn read(set: usize, seed: &[u8], sealed: &[u8], message: &mut [u8], work: &mut [
         return Err(Refusal::NoSuchSet);
     }
     let p = sets::parameters_of(set);
-    if seed.len() != 32 {
+    let Some(seed) = seed.as_array() else {
         return Err(Refusal::Length);
-    }
+    };
     if sealed.len() != sets::derived::cpa_ciphertext_bytes(p) {
-        return Err(Refusal::Length);
-    }
-    if message.len() != 32 {
         return Err(Refusal::Length);
     }
     if work.len() != scheme::work_length(p) {
@@ -69,9 +72,9 @@ fn write_unpacked(
     if public.len() != sets::derived::public_key_bytes(p) {
         return;
     }
-    if seed.len() != 32 {
+    let Some(seed) = seed.as_array() else {
         return;
-    }
+    };
     if out.len() != p.d {
         return;
     }

@@ -43,8 +43,8 @@ fn fill(p: Parameters, multipliers: &[u32], errors: &[u32], before: &[u32], nois
 }
 
 // Draws the errors of a secret seed into the front of the work slice.
-fn draw_errors(p: Parameters, secret: &[u8], work: &mut [u32])
-    requires { ByteRules p × Listed p × (length secret.now ≡ 32) × (is_taken (secret_drawn p secret.now) ≡ true)
+fn draw_errors(p: Parameters, secret: &[u8; 32], work: &mut [u32])
+    requires { ByteRules p × Listed p × (is_taken (secret_drawn p secret.now) ≡ true)
         × (length work.old ≡ work_length_of p) }
     ensures { ErrorsHeld p secret.now work.new }
 {
@@ -57,8 +57,8 @@ fn draw_errors(p: Parameters, secret: &[u8], work: &mut [u32])
 }
 
 // Draws the errors and, after them, the multipliers.
-fn draw(p: Parameters, secret: &[u8], sealing: &[u8], work: &mut [u32])
-    requires { ByteRules p × Listed p × (length secret.now ≡ 32) × (length sealing.now ≡ 32) × (is_taken (secret_drawn p secret.now) ≡ true)
+fn draw(p: Parameters, secret: &[u8; 32], sealing: &[u8; 32], work: &mut [u32])
+    requires { ByteRules p × Listed p × (is_taken (secret_drawn p secret.now) ≡ true)
         × (length work.old ≡ work_length_of p) }
     ensures { Held p secret.now sealing.now work.new }
 {
@@ -71,13 +71,13 @@ fn draw(p: Parameters, secret: &[u8], sealing: &[u8], work: &mut [u32])
 // The noise from c2 before packing and the secret seed.
 fn noise_from(
     p: Parameters,
-    secret: &[u8],
-    sealing: &[u8],
+    secret: &[u8; 32],
+    sealing: &[u8; 32],
     before: &[u32],
     noise: &mut [i64],
     work: &mut [u32],
 )
-    requires { ByteRules p × Listed p × (length secret.now ≡ 32) × (length sealing.now ≡ 32) × (is_taken (secret_drawn p secret.now) ≡ true)
+    requires { ByteRules p × Listed p × (is_taken (secret_drawn p secret.now) ≡ true)
         × Residues p.q before.now × (length before.now ≡ p.d) × (length noise.old ≡ p.d)
         × (length work.old ≡ work_length_of p) }
     ensures { noise.new ≡ in_turn (drawn_noise p secret.now sealing.now before.now) 0 p.d }
@@ -91,18 +91,18 @@ fn noise_from(
 // The noise, with room for the secret seed and for c2 before packing in lent slices.
 fn noise_with_buffers(
     p: Parameters,
-    seed: &[u8],
-    message: &[u8],
-    sealing: &[u8],
+    seed: &[u8; 32],
+    message: &[u8; 32],
+    sealing: &[u8; 32],
     public: &[u8],
     noise: &mut [i64],
     work: &mut [u32],
-    secret: &mut [u8],
+    secret: &mut [u8; 32],
     before: &mut [u32],
 )
-    requires { ByteRules p × Listed p × (length seed.now ≡ 32) × (length message.now ≡ 32) × (length sealing.now ≡ 32)
+    requires { ByteRules p × Listed p
         × (public.now ≡ public_key p seed.now) × (is_taken (secret_drawn p (secret_seed p seed.now)) ≡ true)
-        × (length noise.old ≡ p.d) × (length work.old ≡ work_length_of p) × (length secret.old ≡ 32)
+        × (length noise.old ≡ p.d) × (length work.old ≡ work_length_of p)
         × (length before.old ≡ p.d) }
     ensures { noise.new
         ≡ in_turn (scheme.noise p seed.now message.now sealing.now) 0 p.d }
@@ -116,14 +116,14 @@ fn noise_with_buffers(
 // caller clears it.
 pub fn noise_of(
     p: Parameters,
-    seed: &[u8],
-    message: &[u8],
-    sealing: &[u8],
+    seed: &[u8; 32],
+    message: &[u8; 32],
+    sealing: &[u8; 32],
     public: &[u8],
     noise: &mut [i64],
     work: &mut [u32],
 )
-    requires { ByteRules p × Listed p × (length seed.now ≡ 32) × (length message.now ≡ 32) × (length sealing.now ≡ 32)
+    requires { ByteRules p × Listed p
         × (public.now ≡ public_key p seed.now) × (is_taken (secret_drawn p (secret_seed p seed.now)) ≡ true)
         × (length noise.old ≡ p.d) × (length work.old ≡ work_length_of p) }
     ensures values { noise.new ≡ in_turn (scheme.noise p seed.now message.now sealing.now) 0 p.d }
@@ -140,7 +140,7 @@ pub fn noise_of(
         public,
         noise,
         work,
-        &mut secret[0..32],
+        &mut secret,
         &mut before[0..d],
     );
 }

@@ -34,9 +34,9 @@ pub fn fill(
     let size = scheme::work_length(p);
     seeded::seeded_rows(
         p,
-        &input[1..33],
-        &input[65..97],
-        &input[33..65],
+        input[1..33].as_array().unwrap(),
+        input[65..97].as_array().unwrap(),
+        input[33..65].as_array().unwrap(),
         noise,
         sent,
         read,

@@ -15,18 +15,18 @@ use sets::Parameters;
 // The keys of a seed, the ciphertext of the message under the public key, and the message read from it with the secret seed.
 fn read_message(
     p: Parameters,
-    seed: &[u8],
-    message: &[u8],
-    sealing: &[u8],
+    seed: &[u8; 32],
+    message: &[u8; 32],
+    sealing: &[u8; 32],
     public: &mut [u8],
-    secret: &mut [u8],
+    secret: &mut [u8; 32],
     ciphertext: &mut [u8],
-    opened: &mut [u8],
+    opened: &mut [u8; 32],
     work: &mut [u32],
 ) -> Answer
-    requires { ByteRules p × Listed p × (length seed.now ≡ 32) × (length message.now ≡ 32) × (length sealing.now ≡ 32)
-        × (length public.old ≡ public_key_bytes_of p) × (length secret.old ≡ 32) × (length ciphertext.old ≡ cpa_ciphertext_bytes_of p)
-        × (length opened.old ≡ 32) × (length work.old ≡ work_length_of p) }
+    requires { ByteRules p × Listed p
+        × (length public.old ≡ public_key_bytes_of p) × (length ciphertext.old ≡ cpa_ciphertext_bytes_of p)
+        × (length work.old ≡ work_length_of p) }
     ensures answer { outcome result ≡ key_draws p seed.now }
     ensures key { outcome result ≡ accepted → public.new ≡ public_key p seed.now }
     ensures read { outcome result ≡ accepted
@@ -42,21 +42,21 @@ fn read_message(
 // Writes the rows, with slices for the keys, the ciphertext and the message read.
 fn rows_with_buffers(
     p: Parameters,
-    seed: &[u8],
-    message: &[u8],
-    sealing: &[u8],
+    seed: &[u8; 32],
+    message: &[u8; 32],
+    sealing: &[u8; 32],
     public: &mut [u8],
-    secret: &mut [u8],
+    secret: &mut [u8; 32],
     ciphertext: &mut [u8],
-    opened: &mut [u8],
+    opened: &mut [u8; 32],
     noise: &mut [i64],
     sent: &mut [u32],
     read: &mut [u32],
     work: &mut [u32],
 ) -> Answer
-    requires { ByteRules p × Listed p × (length seed.now ≡ 32) × (length message.now ≡ 32) × (length sealing.now ≡ 32)
-        × (length public.old ≡ public_key_bytes_of p) × (length secret.old ≡ 32) × (length ciphertext.old ≡ cpa_ciphertext_bytes_of p)
-        × (length opened.old ≡ 32) × (length noise.old ≡ p.d) × (length sent.old ≡ p.d) × (length read.old ≡ p.d)
+    requires { ByteRules p × Listed p
+        × (length public.old ≡ public_key_bytes_of p) × (length ciphertext.old ≡ cpa_ciphertext_bytes_of p)
+        × (length noise.old ≡ p.d) × (length sent.old ≡ p.d) × (length read.old ≡ p.d)
         × (length work.old ≡ work_length_of p) }
     ensures answer { outcome result ≡ key_draws p seed.now }
     ensures rows { outcome result ≡ accepted
@@ -75,15 +75,15 @@ fn rows_with_buffers(
 // Writes the rows of a key seed, a message and a sealing seed.
 pub fn seeded_rows(
     p: Parameters,
-    seed: &[u8],
-    message: &[u8],
-    sealing: &[u8],
+    seed: &[u8; 32],
+    message: &[u8; 32],
+    sealing: &[u8; 32],
     noise: &mut [i64],
     sent: &mut [u32],
     read: &mut [u32],
     work: &mut [u32],
 ) -> Answer
-    requires { ByteRules p × Listed p × (length seed.now ≡ 32) × (length message.now ≡ 32) × (length sealing.now ≡ 32)
+    requires { ByteRules p × Listed p
         × (length noise.old ≡ p.d) × (length sent.old ≡ p.d) × (length read.old ≡ p.d)
         × (length work.old ≡ work_length_of p) }
     ensures answer { outcome result ≡ key_draws p seed.now }
@@ -103,9 +103,9 @@ pub fn seeded_rows(
         message,
         sealing,
         &mut public[0..key_size],
-        &mut secret[0..32],
+        &mut secret,
         &mut ciphertext[0..ciphertext_size],
-        &mut opened[0..32],
+        &mut opened,
         noise,
         sent,
         read,

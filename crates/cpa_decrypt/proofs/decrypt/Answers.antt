@@ -24,17 +24,17 @@ use Rattle.cpa_decrypt.proofs.Room.{secret_room}
 use Rattle.cpa_decrypt.proofs.decrypt.Goals.{After-residues_from}
 use Rattle.cpa_decrypt.proofs.decrypt.Goals as goal
 
-pub slice_bounds-residues_from-end : goal.slice_bounds-residues_from-end
-slice_bounds-residues_from-end c = rw c.requires.5 (secret_room c.args.p)
+pub slice_bounds-residues_from-end-2 : goal.slice_bounds-residues_from-end-2
+slice_bounds-residues_from-end-2 c = rw c.requires.3 (secret_room c.args.p)
 
 pub residues_from-requires : goal.residues_from-requires
 residues_from-requires c =
     let p = c.args.p in
     let kept = listed_rules p c.requires.1 in
     let bytes = c.requires.0 in
-    let room = rw (← c.requires.5) at (secret_room p) in
+    let room = rw (← c.requires.3) at (secret_room p) in
     rw (front_length c.args.work.now p.d3 room) (record {
-      rules = (kept, omega (arith, c.requires.2), bytes.some_bytpcs, bytes.most_bytpcs);
+      rules = (kept, omega (arith, c.told-seed), bytes.some_bytpcs, bytes.most_bytpcs);
       out_nonzero = (omega (arith, kept.holds3, kept.some_n, kept.some_d, kept.some_k), omega (arith, kept.most_d3));
     })
 
@@ -54,7 +54,7 @@ module _ (c : After-residues_from) where
 
   -- a stored secret has room
   room : p.d3 ≤ length work
-  room = omega (arith, c.requires.5, secret_room p)
+  room = omega (arith, c.requires.3, secret_room p)
 
   -- as many numbers are drawn as it has
   drawn_length : length drawn ≡ p.d3
@@ -93,11 +93,10 @@ read-requires c =
     let told = c.in_ok-residues_from.was in (
       c.requires.0,
       c.requires.1,
-      c.requires.3,
+      c.requires.2,
       subst⁻¹ (λ (l : List ℕ). Placed (p (goal.at.read-requires c).After-residues_from) 3
           (transform_size_of (p (goal.at.read-requires c).After-residues_from) 3) l) (stored (goal.at.read-requires c).After-residues_from told)
           (stored_placed (goal.at.read-requires c).After-residues_from told),
-      c.requires.4,
     )
 
 pub returns-in_err-residues_from : goal.returns-in_err-residues_from

@@ -29,5 +29,4 @@ read_with_buffers-requires c =
       array_front 3605 room.result (omega (arith, room.ensures, table_most p pre.1 3)) ∙ room.ensures,
       simp (length-take, length-drop) (omega (arith, pre.3.size, size_most p (listed_rules p pre.1) 3)),
       sym pre.0.message_bits,
-      pre.4,
     )

@@ -12,10 +12,10 @@ bytes_of_bits-requires c =
     record {
       digit = rw c.read_bits.ensures (decrypted_bits_from_below p c.args.stored.now c.args.ciphertext.now);
       out_in_bounds = omega
-          (arith, c.read_bits.auto, c.requires.6, c.requires.7, c.requires.0.message_bits);
+          (arith, c.read_bits.auto, c.requires.6, c.told-message, c.requires.0.message_bits);
     }
 
 pub returns : goal.returns
 unfolding decrypted_message_from
 returns c =
-    c.bytes_of_bits.ensures ∙ rw (c.requires.7, c.read_bits.ensures)
+    c.bytes_of_bits.ensures ∙ rw (c.told-message, c.read_bits.ensures)

@@ -18,7 +18,7 @@ end c = c.args.p.d1 * c.args.p.t + c.multiplier_count.result
 
 -- the numbers of the key and the multipliers fit
 fits : (c : After-multiplier_count) → end c ≤ length c.args.work.now
-fits c = omega (arith, (ends c.args.p c.requires.1).numbers_fit, c.multiplier_count.ensures, c.requires.6)
+fits c = omega (arith, (ends c.args.p c.requires.1).numbers_fit, c.multiplier_count.ensures, c.requires.4)
 
 -- few numbers
 few : (c : After-multiplier_count) → end c ≤ 18432
@@ -44,17 +44,17 @@ returns-then-not-load c =
     let whole = refused_call _ _ (numbers_refused c.args.p c.args.key.now (sym c.load.ensures.answer ∙ c.if-not-load.true)) in
     record { answer = whole.0; sealed = whole.1 }
 
-pub slice_bounds-encrypt_numbers-end : goal.slice_bounds-encrypt_numbers-end
-slice_bounds-encrypt_numbers-end c = omega (arith, seed_fits (goal.at.slice_bounds-encrypt_numbers-end c).Start)
+pub unwrap-requires : goal.unwrap-requires
+unwrap-requires c = c.first_chunk.ensures.variant.1 (seed_fits (goal.at.unwrap-requires c).Start)
 
-pub slice_bounds-encrypt_numbers-end-2 : goal.slice_bounds-encrypt_numbers-end-2
-slice_bounds-encrypt_numbers-end-2 c = omega (arith, c.load.auto.work, fits (goal.at.slice_bounds-encrypt_numbers-end-2 c).After-multiplier_count)
+pub slice_bounds-encrypt_numbers-end : goal.slice_bounds-encrypt_numbers-end
+slice_bounds-encrypt_numbers-end c = omega (arith, c.load.auto.work, fits (goal.at.slice_bounds-encrypt_numbers-end c).After-multiplier_count)
 
 pub offset_bounds-work-keys : goal.offset_bounds-work-keys
 offset_bounds-work-keys c = omega (arith, few (goal.at.offset_bounds-work-keys c).After-multiplier_count)
 
-pub slice_bounds-encrypt_numbers-end-3 : goal.slice_bounds-encrypt_numbers-end-3
-slice_bounds-encrypt_numbers-end-3 c = omega (arith, c.load.auto.work, fits (goal.at.slice_bounds-encrypt_numbers-end-3 c).After-multiplier_count)
+pub slice_bounds-encrypt_numbers-end-2 : goal.slice_bounds-encrypt_numbers-end-2
+slice_bounds-encrypt_numbers-end-2 c = omega (arith, c.load.auto.work, fits (goal.at.slice_bounds-encrypt_numbers-end-2 c).After-multiplier_count)
 
 pub encrypt_numbers-requires : goal.encrypt_numbers-requires
 encrypt_numbers-requires c =
@@ -64,18 +64,18 @@ encrypt_numbers-requires c =
     let all = sym c.load.ensures.answer ∙ c.if-not-load.false in (
       pre.0,
       pre.1,
-      front_length c.args.key.now 32 (seed_fits (goal.at.encrypt_numbers-requires c).Start),
       subst (KeyResidues p) (sym (held_numbers p c.args.key.now c.args.seed.now _ held)) (key_residues p c.args.key.now all),
       drawn_multipliers p pre.1 c.args.seed.now _
           (held_multipliers p c.args.key.now c.args.seed.now _ held _ c.multiplier_count.ensures),
-      pre.5,
+      pre.3,
     )
 
 pub returns : goal.returns
 returns c =
     let p = c.args.p in
     let held = c.load.ensures.held in
-    let sealed = c.encrypt_numbers.ensures in let whole = draws_decide p c.args.key.now c.args.message.now c.args.seed.now _ _ _ _ _
+    let seed = (rw c.unwrap.ensures at c.first_chunk.ensures.cases).same in
+    let sealed = rw seed at c.encrypt_numbers.ensures in let whole = draws_decide p c.args.key.now c.args.message.now c.args.seed.now _ _ _ _ _
     (sym c.load.ensures.answer ∙ c.if-not-load.false) (held_numbers p c.args.key.now c.args.seed.now _ held)
     (held_multipliers p c.args.key.now c.args.seed.now _ held _ c.multiplier_count.ensures) sealed.answer sealed.sealed in
     record { answer = whole.0; sealed = whole.1 }

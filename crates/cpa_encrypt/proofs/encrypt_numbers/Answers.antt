@@ -29,7 +29,7 @@ lent c = c.args.ciphertext.now
 fits : (c : After-packed_bytes-middle) → c.packed_bytes-middle.result ≤ length (lent c)
 fits c =
     let ending = ends c.args.p c.requires.1 in
-    omega (arith, c.packed_bytes-middle.ensures, ending.first_is, ending.whole_is, c.requires.5)
+    omega (arith, c.packed_bytes-middle.ensures, ending.first_is, ending.whole_is, c.requires.4)
 
 pub slice_bounds-encrypt_first-end : goal.slice_bounds-encrypt_first-end
 slice_bounds-encrypt_first-end c = fits c
@@ -43,8 +43,7 @@ encrypt_first-requires c =
     let pre = c.requires in (
       pre.0,
       pre.1,
-      pre.2,
-      pre.4,
+      pre.3,
       front_size (goal.at.encrypt_first-requires c).After-packed_bytes-middle ∙ c.packed_bytes-middle.ensures ∙
           (ends c.args.p pre.1).first_is,
     )
@@ -86,10 +85,10 @@ encrypt_second-requires c =
     let ending = ends p pre.1 in (
       pre.0,
       pre.1,
+      pre.2,
       pre.3,
-      pre.4,
       rest_length (written (goal.at.encrypt_second-requires c).After-encrypt_first) bytes.result (second_bytes p)
-          (whole_size (goal.at.encrypt_second-requires c).After-encrypt_first ∙ pre.5 ∙ ending.whole_is ∙ ap (λ (n : ℕ). n + second_bytes p)
+          (whole_size (goal.at.encrypt_second-requires c).After-encrypt_first ∙ pre.4 ∙ ending.whole_is ∙ ap (λ (n : ℕ). n + second_bytes p)
           (sym (bytes.ensures ∙ ending.first_is))),
     )
 

@@ -19,7 +19,7 @@ keys c = c.args.p.d1 * c.args.p.t
 
 -- the numbers of the key and the multipliers fit
 fits : (c : After-multiplier_count) → keys (goal.at.After-multiplier_count c).Start + c.multiplier_count.result ≤ length c.args.work.now
-fits c = omega (arith, (ends c.args.p c.requires.1).numbers_fit, c.multiplier_count.ensures, c.requires.4)
+fits c = omega (arith, (ends c.args.p c.requires.1).numbers_fit, c.multiplier_count.ensures, c.requires.3)
 
 -- so do the seed and what follows it
 seed_fits : (c : Start) → 32 ≤ length c.args.key.now
@@ -81,12 +81,12 @@ read_size c =
     back_length c.args.work.now c.read_key-below.new.numbers (keys (goal.at.After-read_key-below c).Start) (numbers_size c)
     (omega (arith, fits (goal.at.After-read_key-below c).After-multiplier_count))
 
-pub slice_bounds-multipliers_from-end : goal.slice_bounds-multipliers_from-end
-slice_bounds-multipliers_from-end c =
+pub slice_bounds-multipliers_from-end-2 : goal.slice_bounds-multipliers_from-end-2
+slice_bounds-multipliers_from-end-2 c =
     omega (
       arith,
-      read_size (goal.at.slice_bounds-multipliers_from-end c).After-read_key-below,
-      fits (goal.at.slice_bounds-multipliers_from-end c).After-multiplier_count,
+      read_size (goal.at.slice_bounds-multipliers_from-end-2 c).After-read_key-below,
+      fits (goal.at.slice_bounds-multipliers_from-end-2 c).After-multiplier_count,
     )
 
 -- the part of the multipliers
@@ -103,7 +103,7 @@ multipliers_from-requires c =
     let left : keys (goal.at.multipliers_from-requires c).Start + count - keys (goal.at.multipliers_from-requires c).Start ≡ count = omega arith in (
       listed_rules c.args.p c.requires.1,
       c.requires.0,
-      omega (arith, c.requires.3),
+      omega (arith, c.told-seed),
       multipliers_size (goal.at.multipliers_from-requires c).After-read_key-below ∙ left ∙ c.multiplier_count.ensures,
     )
 

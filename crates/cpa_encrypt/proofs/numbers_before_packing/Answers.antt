@@ -16,7 +16,7 @@ end c = c.args.p.d1 * c.args.p.t + c.multiplier_count.result
 
 -- the numbers of the key and the multipliers fit
 fits : (c : After-multiplier_count) → end c ≤ length c.args.work.now
-fits c = omega (arith, (ends c.args.p c.requires.1).numbers_fit, c.multiplier_count.ensures, c.requires.6)
+fits c = omega (arith, (ends c.args.p c.requires.1).numbers_fit, c.multiplier_count.ensures, c.requires.5)
 
 -- few numbers
 few : (c : After-multiplier_count) → end c ≤ 18432
@@ -52,7 +52,7 @@ second_numbers-requires c =
       subst (KeyResidues p) (sym (held_numbers p c.args.key.now c.args.seed.now _ held)) (key_residues p c.args.key.now pre.3),
       drawn_multipliers p pre.1 c.args.seed.now _
           (held_multipliers p c.args.key.now c.args.seed.now _ held _ c.multiplier_count.ensures),
-      pre.5,
+      pre.4,
     )
 
 pub returns : goal.returns

@@ -27,13 +27,13 @@ pub offset_bounds-work-start : goal.offset_bounds-work-start
 offset_bounds-work-start c = omega (arith, (listed_rules c.args.p c.requires.1).most_d3)
 
 pub slice_bounds-errors_from-count : goal.slice_bounds-errors_from-count
-slice_bounds-errors_from-count c = omega (arith, errors_end c)
+slice_bounds-errors_from-count c = omega (arith, errors_end (goal.at.slice_bounds-errors_from-count c).After-vectors_start-end)
 
 pub slice_bounds-errors_from-start : goal.slice_bounds-errors_from-start
-slice_bounds-errors_from-start c = omega (arith, errors_end c)
+slice_bounds-errors_from-start c = omega (arith, errors_end (goal.at.slice_bounds-errors_from-start c).After-vectors_start-end)
 
-pub slice_bounds-errors_from-end : goal.slice_bounds-errors_from-end
-slice_bounds-errors_from-end c = omega (arith, c.vectors_start-end.ensures, c.requires.3, vectors_room c.args.p c.requires.0 c.requires.1)
+pub slice_bounds-errors_from-end-2 : goal.slice_bounds-errors_from-end-2
+slice_bounds-errors_from-end-2 c = omega (arith, c.vectors_start-end.ensures, c.requires.2, vectors_room c.args.p c.requires.0 c.requires.1)
 
 pub errors_from-requires : goal.errors_from-requires
 errors_from-requires c =
@@ -41,10 +41,10 @@ errors_from-requires c =
     let pre = c.requires in
     let size =
     part_length c.args.work.now p.d3 (vectors_start_of p) (error_count_of p) (sym (secret_room p pre.0 pre.1))
-    (omega (arith, pre.3, vectors_room p pre.0 pre.1, secret_room p pre.0 pre.1)) in
+    (omega (arith, pre.2, vectors_room p pre.0 pre.1, secret_room p pre.0 pre.1)) in
     rw c.vectors_start-end.ensures (record {
-      rules = (listed_rules p pre.1, pre.0, omega (arith, pre.2), size);
-      p_bound = omega (arith, pre.4, pre.0.most_error_bytes);
+      rules = (listed_rules p pre.1, pre.0, omega (arith, c.told-seed), size);
+      p_bound = omega (arith, pre.3, pre.0.most_error_bytes);
     })
 
 pub returns : goal.returns

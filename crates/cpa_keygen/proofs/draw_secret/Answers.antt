@@ -25,7 +25,7 @@ pub draw_errors-requires : goal.draw_errors-requires
 draw_errors-requires c =
     let pre = c.requires in
     let small = secret_state_small c.args.p (listed_rules _ pre.1) pre.0 c.args.seed.now in
-    (pre.0, pre.1, pre.2, search rules, omega (arith, small, ap (λ (s : State). s.counter) (took (goal.at.draw_errors-requires c).In_ok-next).next_is))
+    (pre.0, pre.1, search rules, omega (arith, small, ap (λ (s : State). s.counter) (took (goal.at.draw_errors-requires c).In_ok-next).next_is))
 
 pub returns-in_err-next : goal.returns-in_err-next
 returns-in_err-next c =
@@ -43,6 +43,6 @@ returns c =
     let pre = c.requires in record {
       answer = sym (refuse_taken accepted (took (goal.at.returns c).In_ok-next).all_taken_lem);
       result = λ t.
-          secret_held c.args.p pre.0 pre.1 c.args.seed.now c.args.work.now _ _ _ pre.3 t (took (goal.at.returns c).In_ok-next).next_is
+          secret_held c.args.p pre.0 pre.1 c.args.seed.now c.args.work.now _ _ _ pre.2 t (took (goal.at.returns c).In_ok-next).next_is
           (c.draw_stored.ensures.result t) c.draw_errors.ensures;
     }

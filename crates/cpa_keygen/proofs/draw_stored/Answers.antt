@@ -18,10 +18,10 @@ use Rattle.cpa_keygen.proofs.draw_stored.Goals as goal
 
 -- the secret lies in the work slice
 room : (c : Start) → c.args.p.d3 ≤ length c.args.work.now
-room c = omega (arith, c.requires.3, vectors_room c.args.p c.requires.0 c.requires.1, secret_room c.args.p c.requires.0 c.requires.1)
+room c = omega (arith, c.requires.2, vectors_room c.args.p c.requires.0 c.requires.1, secret_room c.args.p c.requires.0 c.requires.1)
 
-pub slice_bounds-residues_from-end : goal.slice_bounds-residues_from-end
-slice_bounds-residues_from-end c = room (goal.at.slice_bounds-residues_from-end c).Start
+pub slice_bounds-residues_from-end-2 : goal.slice_bounds-residues_from-end-2
+slice_bounds-residues_from-end-2 c = room (goal.at.slice_bounds-residues_from-end-2 c).Start
 
 pub residues_from-requires : goal.residues_from-requires
 residues_from-requires c =
@@ -31,7 +31,7 @@ residues_from-requires c =
     let bytes = pre.0 in
     rw (front_length c.args.work.now p.d3 (room (goal.at.residues_from-requires c).Start))
     (record {
-      rules = (kept, omega (arith, pre.2), bytes.some_bytpcs, bytes.most_bytpcs);
+      rules = (kept, omega (arith, c.told-seed), bytes.some_bytpcs, bytes.most_bytpcs);
       out_nonzero = (omega (arith, kept.some_n, kept.some_d, kept.some_k, kept.holds3), omega (arith, kept.most_d3));
     })
 

@@ -14,27 +14,27 @@ use Rattle.cpa_keygen.proofs.keygen_with_buffers.Goals as goal
 
 -- the lengths of the seeds
 secret_size : (c : After-source_bytes-next) → length c.source_bytes-next.new.out ≡ 32
-secret_size c = c.source_bytes-next.auto.out ∙ c.requires.6
+secret_size c = c.source_bytes-next.auto.out ∙ c.told-seedsk
 
 public_size : (c : After-source_bytes) → length c.source_bytes.new.out ≡ 32
-public_size c = c.source_bytes.auto.out ∙ c.requires.7
+public_size c = c.source_bytes.auto.out ∙ c.told-seedpk
 
 -- seedpk is read with the counter that the output of seedsk left
 pub source_bytes-requires : goal.source_bytes-requires
 source_bytes-requires c =
     let moved = ap (λ (s : State). s.counter) c.source_bytes-next.ensures.state in
     let most = output_most c.args.p (initial c.args.seed.now) (length c.args.seedsk.now) in
-    (omega (arith, c.requires.2), omega (arith, moved, most, c.requires.6, c.requires.7))
+    (omega (arith, c.told-seed), omega (arith, moved, most, c.told-seedsk, c.told-seedpk))
 
 -- the seeds are those of the definition
 module _ (c : After-source_bytes) where
   first_is : c.source_bytes-next.new.out ≡ secret_seed c.args.p c.args.seed.now
   first_is =
-      secret_made c.args.p c.args.seed.now c.requires.6 c.source_bytes-next.ensures.bytes
+      secret_made c.args.p c.args.seed.now c.told-seedsk c.source_bytes-next.ensures.bytes
 
   second_is : c.source_bytes.new.out ≡ public_seed c.args.p c.args.seed.now
   second_is =
-      public_made c.args.p c.args.seed.now c.requires.6 _ c.requires.7 c.source_bytes-next.ensures.state
+      public_made c.args.p c.args.seed.now c.told-seedsk _ c.told-seedpk c.source_bytes-next.ensures.state
       c.source_bytes.ensures.bytes
 
 pub store_key-requires : goal.store_key-requires
@@ -42,9 +42,7 @@ store_key-requires c =
     let pre = c.requires in (
       pre.0,
       pre.1,
-      secret_size (goal.at.store_key-requires c).After-source_bytes-next,
-      public_size (goal.at.store_key-requires c).After-source_bytes,
-      pre.5,
+      pre.3,
     )
 
 pub write_public_key-requires : goal.write_public_key-requires
@@ -52,13 +50,13 @@ write_public_key-requires c =
     let pre = c.requires in
     let vectors = c.store_key in
     record {
-      byte_rules = (pre.0, pre.1, public_size (goal.at.write_public_key-requires c).After-source_bytes, vectors.auto.work ∙ pre.5, pre.3);
+      byte_rules = (pre.0, pre.1, vectors.auto.work ∙ pre.3, pre.2);
       digit = stored_digits c.args.p pre.1 _ _ (c.in_ok-store_key.ensures.result refl);
     }
 
 pub copy_in-requires : goal.copy_in-requires
 copy_in-requires c =
-    omega (arith, secret_size (goal.at.copy_in-requires c).After-source_bytes-next, c.requires.4)
+    omega (arith, secret_size (goal.at.copy_in-requires c).After-source_bytes-next, c.told-secret_seed)
 
 pub returns-in_err-store_key : goal.returns-in_err-store_key
 returns-in_err-store_key c =
@@ -79,7 +77,7 @@ returns c =
           (c.in_ok-store_key.ensures.result refl)
           ∙ sym (leaves_accepted _ _ decided);
       secret = c.copy_in.ensures
-          ∙ over_whole _ _ (secret_size (goal.at.returns c).After-source_bytes-next ∙ sym c.requires.4)
+          ∙ over_whole _ _ (secret_size (goal.at.returns c).After-source_bytes-next ∙ sym c.told-secret_seed)
           ∙ first_is (goal.at.returns c).After-source_bytes
           ∙ sym (leaves_accepted _ _ decided);
     }

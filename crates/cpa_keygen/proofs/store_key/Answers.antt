@@ -17,9 +17,8 @@ store_vectors-requires c =
     let drawn = draw_accepted _ accepted (sym c.in_ok-draw_secret.ensures.answer) in (
       pre.0,
       pre.1,
-      pre.3,
       secret_residues c.args.p pre.0 pre.1 c.args.seedsk.now secret.new.work (secret.ensures.result drawn.0)
-          (secret.auto.work ∙ pre.4),
+          (secret.auto.work ∙ pre.2),
     )
 
 pub returns-in_err-draw_secret : goal.returns-in_err-draw_secret
@@ -40,6 +39,6 @@ returns c =
       answer = vectors.ensures.answer ∙ sym (refuse_taken _ drawn.0);
       result = λ e.
           key_stored c.args.p pre.0 pre.1 c.args.seedsk.now secret.new.work (secret.ensures.result drawn.0)
-          (secret.auto.work ∙ pre.4) c.args.seedpk.now _
+          (secret.auto.work ∙ pre.2) c.args.seedpk.now _
           (vectors.ensures.result (draw_accepted _ accepted (sym vectors.ensures.answer ∙ e)).0);
     }

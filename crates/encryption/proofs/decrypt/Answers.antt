@@ -31,6 +31,17 @@ returns-in_err-p c =
     (decrypted_message p args.secret.now args.ciphertext.now) args.message.now
     _ c.from_residual.result c.from_residual.ensures.1 c.in_err-p.ensures in record { answer = whole.0; read = whole.1.0; cleared = whole.1.1 }
 
+-- so the secret key and the message have 32 bytes
+pub unwrap-requires : goal.unwrap-requires
+unwrap-requires c =
+    let set = c.args.set in
+    let fit = decrypt_passed is_encryption set _ _ _ _ (passed (goal.at.unwrap-requires c).In_ok-p) in
+    c.as_array.ensures.variant.1 (fit.1 ∙ secret_other set (encryption_only set fit.0.2))
+
+pub unwrap-requires-2 : goal.unwrap-requires-2
+unwrap-requires-2 c =
+    c.as_mut_array.ensures.variant.1 (decrypt_passed is_encryption c.args.set _ _ _ _ (passed (goal.at.unwrap-requires-2 c).In_ok-p)).3
+
 pub decrypt_if_below-answer-requires : goal.decrypt_if_below-answer-requires
 decrypt_if_below-answer-requires c =
     let set = c.args.set in
@@ -39,9 +50,7 @@ decrypt_if_below-answer-requires c =
     rw c.in_ok-p.ensures.0 (
       own_bytes is_encryption set fit.0,
       own_listed is_encryption set fit.0,
-      fit.1 ∙ secret_other set other,
       fit.2 ∙ ciphertext_other set other,
-      fit.3,
       fit.4,
     )
 
@@ -51,7 +60,9 @@ returns c =
     let args = c.args in
     let p = set_of args.set in
     let made = c.decrypt_if_below-answer in
-    let left = rw c.in_ok-p.ensures.0 at made.ensures in
+    let secret = (rw c.unwrap.ensures at c.as_array.ensures.cases).same in
+    let message = (rw c.unwrap-2.ensures at c.as_mut_array.ensures.cases).same in
+    let left = rw (c.in_ok-p.ensures.0, secret, message) at made.ensures in
     let whole = one_drawn (decrypt_draws p args.secret.now args.ciphertext.now) args.work.now
     (decrypted_message p args.secret.now args.ciphertext.now) args.message.now
     (passed (goal.at.returns c).In_ok-p) (left.answer, left.read) (c.clear.ensures ∙ ap (λ (n : ℕ). replicate n 0) made.auto.work) in

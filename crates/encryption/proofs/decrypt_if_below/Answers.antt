@@ -8,7 +8,7 @@ use Rattle.encryption.proofs.decrypt_if_below.Goals as goal
 
 pub decrypt-requires : goal.decrypt-requires
 decrypt-requires c =
-    (c.requires.0, c.requires.1, search rules, search rules, search rules, search rules)
+    (c.requires.0, c.requires.1, search rules, search rules)
 
 pub returns-then-not-first_below : goal.returns-then-not-first_below
 returns-then-not-first_below c =

@@ -31,6 +31,13 @@ returns-in_err-p c =
     (scheme.ciphertext p args.public.now args.message.now args.seed.now) args.ciphertext.now
     _ c.from_residual.result c.from_residual.ensures.1 c.in_err-p.ensures in record { answer = whole.0; given = whole.1.0; cleared = whole.1.1 }
 
+-- so the message and the seed have 32 bytes
+pub unwrap-requires : goal.unwrap-requires
+unwrap-requires c = c.as_array.ensures.variant.1 (encrypt_passed is_encryption c.args.set _ _ _ _ _ (passed (goal.at.unwrap-requires c).In_ok-p)).2
+
+pub unwrap-requires-2 : goal.unwrap-requires-2
+unwrap-requires-2 c = c.as_array-2.ensures.variant.1 (encrypt_passed is_encryption c.args.set _ _ _ _ _ (passed (goal.at.unwrap-requires-2 c).In_ok-p)).3
+
 pub encrypt-answer-requires : goal.encrypt-answer-requires
 encrypt-answer-requires c =
     let set = c.args.set in
@@ -39,8 +46,6 @@ encrypt-answer-requires c =
       own_bytes is_encryption set fit.0,
       own_listed is_encryption set fit.0,
       fit.1,
-      fit.2,
-      fit.3,
       fit.4 ∙ ciphertext_other set (encryption_only set fit.0.2),
       fit.5,
     )
@@ -51,7 +56,9 @@ returns c =
     let args = c.args in
     let p = set_of args.set in
     let made = c.encrypt-answer in
-    let left = rw c.in_ok-p.ensures.0 at made.ensures in
+    let message = (rw c.unwrap.ensures at c.as_array.ensures.cases).same in
+    let seed = (rw c.unwrap-2.ensures at c.as_array-2.ensures.cases).same in
+    let left = rw (c.in_ok-p.ensures.0, message, seed) at made.ensures in
     let whole = one_drawn (encrypt_draws p args.public.now) args.work.now
     (scheme.ciphertext p args.public.now args.message.now args.seed.now) args.ciphertext.now
     (passed (goal.at.returns c).In_ok-p) (left.answer, left.sealed) (c.clear.ensures ∙ ap (λ (n : ℕ). replicate n 0) made.auto.work) in

@@ -33,6 +33,16 @@ returns-in_err-p c =
     _ c.from_residual.result c.from_residual.ensures.1 c.in_err-p.ensures in
     record { answer = whole.0; given = whole.1.0; kept = whole.1.1.0; cleared = whole.1.1.1 }
 
+-- so the seed and the secret key have 32 bytes
+pub unwrap-requires : goal.unwrap-requires
+unwrap-requires c = c.as_array.ensures.variant.1 (key_passed is_encryption c.args.set _ _ _ _ (passed (goal.at.unwrap-requires c).In_ok-p)).1
+
+pub unwrap-requires-2 : goal.unwrap-requires-2
+unwrap-requires-2 c =
+    let set = c.args.set in
+    let fit = key_passed is_encryption set _ _ _ _ (passed (goal.at.unwrap-requires-2 c).In_ok-p) in
+    c.as_mut_array.ensures.variant.1 (fit.3 ∙ secret_other set (encryption_only set fit.0.2))
+
 pub keygen-answer-requires : goal.keygen-answer-requires
 keygen-answer-requires c =
     let set = c.args.set in
@@ -40,9 +50,7 @@ keygen-answer-requires c =
     rw c.in_ok-p.ensures.0 (
       own_bytes is_encryption set fit.0,
       own_listed is_encryption set fit.0,
-      fit.1,
       fit.2,
-      fit.3 ∙ secret_other set (encryption_only set fit.0.2),
       fit.4,
     )
 
@@ -52,7 +60,9 @@ returns c =
     let args = c.args in
     let p = set_of args.set in
     let made = c.keygen-answer in
-    let left = rw c.in_ok-p.ensures.0 at made.ensures in
+    let seed = (rw c.unwrap.ensures at c.as_array.ensures.cases).same in
+    let secret = (rw c.unwrap-2.ensures at c.as_mut_array.ensures.cases).same in
+    let left = rw (c.in_ok-p.ensures.0, seed, secret) at made.ensures in
     let whole = two_drawn (key_draws p args.seed.now) args.work.now
     (public_key p args.seed.now) args.public.now
     (secret_seed p args.seed.now) args.secret.now

@@ -30,6 +30,10 @@ returns-in_err-p c =
     (decapsulated p args.secret.now args.ciphertext.now) args.shared.now
     _ c.from_residual.result c.from_residual.ensures.1 c.in_err-p.ensures in record { answer = whole.0; agreed = whole.1.0; cleared = whole.1.1 }
 
+-- so the shared key has 32 bytes
+pub unwrap-requires : goal.unwrap-requires
+unwrap-requires c = c.as_mut_array.ensures.variant.1 (decrypt_passed is_exchange c.args.set _ _ _ _ (passed (goal.at.unwrap-requires c).In_ok-p)).3
+
 pub decapsulated_key-answer-requires : goal.decapsulated_key-answer-requires
 decapsulated_key-answer-requires c =
     let set = c.args.set in
@@ -39,7 +43,6 @@ decapsulated_key-answer-requires c =
       own_listed is_exchange set fit.0,
       fit.1 ∙ secret_exchange set fit.0.2,
       fit.2 ∙ ciphertext_exchange set fit.0.2,
-      fit.3,
       fit.4,
     )
 
@@ -49,7 +52,8 @@ returns c =
     let args = c.args in
     let p = set_of args.set in
     let made = c.decapsulated_key-answer in
-    let left = rw c.in_ok-p.ensures.0 at made.ensures in
+    let shared = (rw c.unwrap.ensures at c.as_mut_array.ensures.cases).same in
+    let left = rw (c.in_ok-p.ensures.0, shared) at made.ensures in
     let whole = one_drawn (decapsulate_draws p args.secret.now) args.work.now
     (decapsulated p args.secret.now args.ciphertext.now) args.shared.now
     (passed (goal.at.returns c).In_ok-p) (left.answer, left.agreed) (c.clear.ensures ∙ ap (λ (n : ℕ). replicate n 0) made.auto.work) in

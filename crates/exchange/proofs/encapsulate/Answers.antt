@@ -32,6 +32,13 @@ returns-in_err-p c =
     _ c.from_residual.result c.from_residual.ensures.1 c.in_err-p.ensures in
     record { answer = whole.0; given = whole.1.0; agreed = whole.1.1.0; cleared = whole.1.1.1 }
 
+-- so the message and the shared key have 32 bytes
+pub unwrap-requires : goal.unwrap-requires
+unwrap-requires c = c.as_array.ensures.variant.1 (encrypt_passed is_exchange c.args.set _ _ _ _ _ (passed (goal.at.unwrap-requires c).In_ok-p)).2
+
+pub unwrap-requires-2 : goal.unwrap-requires-2
+unwrap-requires-2 c = c.as_mut_array.ensures.variant.1 (encrypt_passed is_exchange c.args.set _ _ _ _ _ (passed (goal.at.unwrap-requires-2 c).In_ok-p)).3
+
 pub encapsulated_key-answer-requires : goal.encapsulated_key-answer-requires
 encapsulated_key-answer-requires c =
     let set = c.args.set in
@@ -40,9 +47,7 @@ encapsulated_key-answer-requires c =
       own_bytes is_exchange set fit.0,
       own_listed is_exchange set fit.0,
       fit.1,
-      fit.2,
       fit.4 ∙ ciphertext_exchange set fit.0.2,
-      fit.3,
       fit.5,
     )
 
@@ -52,7 +57,9 @@ returns c =
     let args = c.args in
     let p = set_of args.set in
     let made = c.encapsulated_key-answer in
-    let left = rw c.in_ok-p.ensures.0 at made.ensures in
+    let message = (rw c.unwrap.ensures at c.as_array.ensures.cases).same in
+    let shared = (rw c.unwrap-2.ensures at c.as_mut_array.ensures.cases).same in
+    let left = rw (c.in_ok-p.ensures.0, message, shared) at made.ensures in
     let whole = two_drawn (encrypt_draws p args.public.now) args.work.now
     (encapsulated p args.public.now args.message.now) args.ciphertext.now
     (shared_key p args.public.now args.message.now) args.shared.now

@@ -32,6 +32,10 @@ returns-in_err-p c =
     _ c.from_residual.result c.from_residual.ensures.1 c.in_err-p.ensures in
     record { answer = whole.0; given = whole.1.0; kept = whole.1.1.0; cleared = whole.1.1.1 }
 
+-- so the seed has 32 bytes
+pub unwrap-requires : goal.unwrap-requires
+unwrap-requires c = c.as_array.ensures.variant.1 (key_passed is_exchange c.args.set _ _ _ _ (passed (goal.at.unwrap-requires c).In_ok-p)).1
+
 pub keygen-answer-requires : goal.keygen-answer-requires
 keygen-answer-requires c =
     let set = c.args.set in
@@ -39,7 +43,6 @@ keygen-answer-requires c =
     rw c.in_ok-p.ensures.0 (
       own_bytes is_exchange set fit.0,
       own_listed is_exchange set fit.0,
-      fit.1,
       fit.2,
       fit.3 ∙ secret_exchange set fit.0.2,
       fit.4,
@@ -51,7 +54,8 @@ returns c =
     let args = c.args in
     let p = set_of args.set in
     let made = c.keygen-answer in
-    let left = rw c.in_ok-p.ensures.0 at made.ensures in
+    let seed = (rw c.unwrap.ensures at c.as_array.ensures.cases).same in
+    let left = rw (c.in_ok-p.ensures.0, seed) at made.ensures in
     let whole = two_drawn (key_draws p (inner_seed p args.seed.now)) args.work.now
     (exchange_public_key p args.seed.now) args.public.now
     (exchange_secret_key p args.seed.now) args.secret.now

@@ -34,7 +34,7 @@ count_is c = c.multiplier_count.ensures
 -- both fit
 fits : (c : After-multiplier_count) → errors c + multipliers c ≤ length c.args.work.now
 fits c =
-    omega (arith, (work_room c.args.p c.requires.0 c.requires.1).all_in, start_is c, count_is c, c.requires.5)
+    omega (arith, (work_room c.args.p c.requires.0 c.requires.1).all_in, start_is c, count_is c, c.requires.3)
 
 few : (c : After-multiplier_count) → errors c + multipliers c ≤ 18432
 few c =
@@ -46,8 +46,8 @@ overflow_add-end c = omega (arith, few c)
 pub offset_bounds-work-start : goal.offset_bounds-work-start
 offset_bounds-work-start c = omega (arith, few (goal.at.offset_bounds-work-start c).After-multiplier_count)
 
-pub slice_bounds-multipliers_from-end : goal.slice_bounds-multipliers_from-end
-slice_bounds-multipliers_from-end c = omega (arith, c.draw_errors.auto.work, fits (goal.at.slice_bounds-multipliers_from-end c).After-multiplier_count)
+pub slice_bounds-multipliers_from-end-2 : goal.slice_bounds-multipliers_from-end-2
+slice_bounds-multipliers_from-end-2 c = omega (arith, c.draw_errors.auto.work, fits (goal.at.slice_bounds-multipliers_from-end-2 c).After-multiplier_count)
 
 -- the part of the multipliers
 part_size : (c : After-draw_errors) → let from = errors (goal.at.After-draw_errors c).After-multiplier_count in
@@ -64,7 +64,7 @@ pub multipliers_from-requires : goal.multipliers_from-requires
 multipliers_from-requires c = (
   listed_rules c.args.p c.requires.1,
   c.requires.0,
-  omega (arith, c.requires.3),
+  omega (arith, c.told-sealing),
   part_size (goal.at.multipliers_from-requires c).After-draw_errors ∙ c.multiplier_count.ensures,
 )
 

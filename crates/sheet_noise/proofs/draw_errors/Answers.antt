@@ -42,25 +42,25 @@ error_count-count-requires c = listed_rules c.args.p c.requires.1
 -- the secret and the errors fit
 secret_fits : (c : After-error_count-count) → (p c).d3 ≤ length (work c)
 secret_fits c =
-    omega (arith, (work_room c.args.p c.requires.0 c.requires.1).secret_in, c.requires.4)
+    omega (arith, (work_room c.args.p c.requires.0 c.requires.1).secret_in, c.requires.3)
 
 errors_fit : (c : After-error_count-count) → c.error_count-count.result ≤ length (work c)
 errors_fit c =
-    omega (arith, (work_room c.args.p c.requires.0 c.requires.1).all_in, c.error_count-count.ensures.0, c.requires.4)
+    omega (arith, (work_room c.args.p c.requires.0 c.requires.1).all_in, c.error_count-count.ensures.0, c.requires.3)
 
 -- the part of the secret
 secret_part : (c : After-error_count-count)
     → length (take ((p c).d3 - 0) (drop 0 (work c))) ≡ (p c).d3
 secret_part c = front_length (work c) (p c).d3 (secret_fits c)
 
-pub slice_bounds-residues_from-end : goal.slice_bounds-residues_from-end
-slice_bounds-residues_from-end c = omega (arith, secret_fits c)
+pub slice_bounds-residues_from-end-2 : goal.slice_bounds-residues_from-end-2
+slice_bounds-residues_from-end-2 c = omega (arith, secret_fits (goal.at.slice_bounds-residues_from-end-2 c).After-error_count-count)
 
 pub residues_from-requires : goal.residues_from-requires
 residues_from-requires c =
     let all = kept (goal.at.residues_from-requires c).After-error_count-count in
     record {
-      rules = (all, omega (arith, c.requires.2), c.requires.0.some_bytpcs, c.requires.0.most_bytpcs);
+      rules = (all, omega (arith, c.told-secret), c.requires.0.some_bytpcs, c.requires.0.most_bytpcs);
       out_nonzero = (
         omega (arith, secret_part (goal.at.residues_from-requires c).After-error_count-count, all.some_n, all.some_d, all.some_k, all.holds3),
         omega (arith, secret_part (goal.at.residues_from-requires c).After-error_count-count, all.most_d3),
@@ -73,7 +73,7 @@ returns-in_default c =
     let answer = sym (ap (onward secret) c.in_default.is) ∙ c.residues_from.ensures.answer in
     absurd
     (never_refused c.args.p secret _ (secret_part (goal.at.returns-in_default c).After-error_count-count)
-    c.requires.0.some_bytpcs _ answer c.requires.3)
+    c.requires.0.some_bytpcs _ answer c.requires.2)
 
 -- the state that the draw of the secret leaves
 state_is : (c : In-Ok) → state_at c.args.secret.now c.in-Ok.counter ≡ secret_state c.args.p c.args.secret.now
@@ -90,12 +90,12 @@ kept_length c =
     (c.residues_from.auto.out ∙ secret_part (goal.at.After-residues_from c).After-error_count-count)
     (secret_fits (goal.at.After-residues_from c).After-error_count-count)
 
-pub slice_bounds-errors_from-end : goal.slice_bounds-errors_from-end
-slice_bounds-errors_from-end c =
+pub slice_bounds-errors_from-end-2 : goal.slice_bounds-errors_from-end-2
+slice_bounds-errors_from-end-2 c =
     omega (
       arith,
-      kept_length (goal.at.slice_bounds-errors_from-end c).After-residues_from,
-      errors_fit (goal.at.slice_bounds-errors_from-end c).After-error_count-count,
+      kept_length (goal.at.slice_bounds-errors_from-end-2 c).After-residues_from,
+      errors_fit (goal.at.slice_bounds-errors_from-end-2 c).After-error_count-count,
     )
 
 -- the part of the errors
@@ -113,7 +113,7 @@ errors_from-requires c =
       rules = (
         kept (goal.at.errors_from-requires c).After-error_count-count,
         c.requires.0,
-        omega (arith, c.requires.2),
+        omega (arith, c.told-secret),
         errors_size (goal.at.errors_from-requires c).After-residues_from ∙ c.error_count-count.ensures.0,
       );
       p_bound = omega (

@@ -49,7 +49,7 @@ count_is c = c.multiplier_count.ensures
 -- both fit
 fits : (c : After-multiplier_count) → error_total c + multiplier_total c ≤ length c.args.work.now
 fits c =
-    omega (arith, (work_room c.args.p c.requires.0 c.requires.1).all_in, start_is c, count_is c, c.requires.8)
+    omega (arith, (work_room c.args.p c.requires.0 c.requires.1).all_in, start_is c, count_is c, c.requires.6)
 
 few : (c : After-multiplier_count) → error_total c + multiplier_total c ≤ 18432
 few c =
@@ -108,9 +108,9 @@ fill-requires c =
       errors_size (goal.at.fill-requires c).After-draw ∙ c.error_count-start.ensures.0,
       subst (Residues p.q) (sym (multipliers_are (goal.at.fill-requires c).After-draw)) drawn_multipliers,
       subst (Residues p.q) (sym (errors_are (goal.at.fill-requires c).After-draw)) drawn-errors,
+      pre.3,
+      pre.4,
       pre.5,
-      pre.6,
-      pre.7,
     )
 
 pub returns : goal.returns

@@ -14,7 +14,7 @@ pub noise_with_buffers-requires : goal.noise_with_buffers-requires
 noise_with_buffers-requires c =
     let pre = c.requires in
     let long = array_front 256 c.args.p.d (listed_rules c.args.p pre.1).most_d in
-    (pre.0, pre.1, pre.2, pre.3, pre.4, pre.5, pre.6, pre.7, pre.8, array_front 32 32 (omega arith), long)
+    (pre.0, pre.1, pre.2, pre.3, pre.4, pre.5, long)
 
 pub returns : goal.returns
 returns c =

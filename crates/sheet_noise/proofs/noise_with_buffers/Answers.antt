@@ -16,7 +16,7 @@ use Rattle.sheet_noise.proofs.noise_with_buffers.Goals.{After-source_bytes}
 use Rattle.sheet_noise.proofs.noise_with_buffers.Goals as goal
 
 pub source_bytes-requires : goal.source_bytes-requires
-source_bytes-requires c = let pre = c.requires in (omega (arith, pre.2), omega (arith, pre.9))
+source_bytes-requires c = (omega (arith, c.told-seed), omega (arith, c.told-secret))
 
 pub numbers_before_packing-requires : goal.numbers_before_packing-requires
 numbers_before_packing-requires c =
@@ -24,11 +24,10 @@ numbers_before_packing-requires c =
     let pre = c.requires in (
       pre.0,
       pre.1,
-      ap length pre.5 ∙ public_key_length (listed_conditions p pre.0 pre.1) c.args.seed.now,
-      key_below p pre.0 pre.1 c.args.seed.now c.args.message.now c.args.sealing.now c.args.public.now pre.5,
-      pre.4,
-      pre.10,
-      pre.8,
+      ap length pre.2 ∙ public_key_length (listed_conditions p pre.0 pre.1) c.args.seed.now,
+      key_below p pre.0 pre.1 c.args.seed.now c.args.message.now c.args.sealing.now c.args.public.now pre.2,
+      pre.6,
+      pre.5,
     )
 
 -- the secret seed
@@ -37,7 +36,7 @@ secret_is : (c : After-source_bytes)
 unfolding secret_seed
 secret_is c =
     c.source_bytes.ensures.bytes
-    ∙ ap (λ (n : ℕ). (output c.args.p (initial c.args.seed.now) n).bytes) c.requires.9
+    ∙ ap (λ (n : ℕ). (output c.args.p (initial c.args.seed.now) n).bytes) c.told-secret
 
 pub noise_from-requires : goal.noise_from-requires
 noise_from-requires c =
@@ -46,14 +45,12 @@ noise_from-requires c =
     let made = c.numbers_before_packing in (
       pre.0,
       pre.1,
-      c.source_bytes.auto.out ∙ pre.9,
-      pre.4,
-      ap (λ (xs : List ℕ). is_taken (secret_drawn p xs)) (secret_is (goal.at.noise_from-requires c).After-source_bytes) ∙ pre.6,
+      ap (λ (xs : List ℕ). is_taken (secret_drawn p xs)) (secret_is (goal.at.noise_from-requires c).After-source_bytes) ∙ pre.3,
       before_residues p pre.0 pre.1 c.args.seed.now c.args.message.now c.args.sealing.now c.args.public.now _
           made.ensures,
-      made.auto.out ∙ pre.10,
-      pre.7,
-      made.auto.work ∙ pre.8,
+      made.auto.out ∙ pre.6,
+      pre.4,
+      made.auto.work ∙ pre.5,
     )
 
 pub returns : goal.returns
@@ -61,4 +58,4 @@ returns c =
     let pre = c.requires in
     c.noise_from.ensures
     ∙ noise_places c.args.p pre.0 pre.1 c.args.seed.now c.args.message.now c.args.sealing.now _ _
-    c.args.public.now (secret_is (goal.at.returns c).After-source_bytes) pre.5 c.numbers_before_packing.ensures
+    c.args.public.now (secret_is (goal.at.returns c).After-source_bytes) pre.2 c.numbers_before_packing.ensures

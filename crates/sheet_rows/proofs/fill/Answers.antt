@@ -40,30 +40,37 @@ pub work_length-size-requires : goal.work_length-size-requires
 work_length-size-requires c =
     rules_of c.args.set (sheet_set c.args.set c.requires.0) _ c.requires.6
 
+pub slice_bounds-as_array-end : goal.slice_bounds-as_array-end
+slice_bounds-as_array-end c = omega (arith, long c)
+
+pub slice_bounds-as_array-end-2 : goal.slice_bounds-as_array-end-2
+slice_bounds-as_array-end-2 c = omega (arith, long (goal.at.slice_bounds-as_array-end-2 c).After-work_length-size)
+
+pub slice_bounds-as_array-end-3 : goal.slice_bounds-as_array-end-3
+slice_bounds-as_array-end-3 c = omega (arith, long (goal.at.slice_bounds-as_array-end-3 c).After-work_length-size)
+
 pub slice_bounds-seeded_rows-end : goal.slice_bounds-seeded_rows-end
-slice_bounds-seeded_rows-end c = omega (arith, long c)
+slice_bounds-seeded_rows-end c = omega (arith, room (goal.at.slice_bounds-seeded_rows-end c).After-work_length-size)
 
-pub slice_bounds-seeded_rows-end-2 : goal.slice_bounds-seeded_rows-end-2
-slice_bounds-seeded_rows-end-2 c = omega (arith, long (goal.at.slice_bounds-seeded_rows-end-2 c).After-work_length-size)
+pub unwrap-requires : goal.unwrap-requires
+unwrap-requires c =
+    c.as_array.ensures.variant.1 (part_length c.args.input.now 1 33 32 refl (rw (long (goal.at.unwrap-requires c).After-work_length-size) (omega arith)))
 
-pub slice_bounds-seeded_rows-end-3 : goal.slice_bounds-seeded_rows-end-3
-slice_bounds-seeded_rows-end-3 c = omega (arith, long (goal.at.slice_bounds-seeded_rows-end-3 c).After-work_length-size)
+pub unwrap-requires-2 : goal.unwrap-requires-2
+unwrap-requires-2 c =
+    c.as_array-2.ensures.variant.1 (part_length c.args.input.now 65 97 32 refl (rw (long (goal.at.unwrap-requires-2 c).After-work_length-size) (omega arith)))
 
-pub slice_bounds-seeded_rows-end-4 : goal.slice_bounds-seeded_rows-end-4
-slice_bounds-seeded_rows-end-4 c = omega (arith, room (goal.at.slice_bounds-seeded_rows-end-4 c).After-work_length-size)
+pub unwrap-requires-3 : goal.unwrap-requires-3
+unwrap-requires-3 c =
+    c.as_array-3.ensures.variant.1 (part_length c.args.input.now 33 65 32 refl (rw (long (goal.at.unwrap-requires-3 c).After-work_length-size) (omega arith)))
 
 pub seeded_rows-requires : goal.seeded_rows-requires
 seeded_rows-requires c =
     let pre = c.requires in
-    let input = c.args.input.now in
-    let size = long (goal.at.seeded_rows-requires c).After-work_length-size in
     let set = c.args.set in
     let low = sheet_set set pre.0 in (
       byte_rules_of set low _ pre.6 c.if-set-lt1.false,
       record { set = set; is_set = low; listed = pre.6 },
-      part_length input 1 33 32 refl (rw size (omega arith)),
-      part_length input 65 97 32 refl (rw size (omega arith)),
-      part_length input 33 65 32 refl (rw size (omega arith)),
       pre.2,
       pre.3,
       pre.4,
@@ -72,5 +79,8 @@ seeded_rows-requires c =
 
 pub returns : goal.returns
 returns c =
-    let whole = seeded_filled c.args.set c.args.p c.args.input.now _ _ _ _ c.if-set-lt1.false c.requires.6
-    c.seeded_rows.ensures.answer c.seeded_rows.ensures.rows in record { answer = whole.0; rows = whole.1 }
+    let seed = (rw c.unwrap.ensures at c.as_array.ensures.cases).same in
+    let message = (rw c.unwrap-2.ensures at c.as_array-2.ensures.cases).same in
+    let sealing = (rw c.unwrap-3.ensures at c.as_array-3.ensures.cases).same in
+    let made = rw (seed, message, sealing) at c.seeded_rows.ensures in
+    let whole = seeded_filled c.args.set c.args.p c.args.input.now _ _ _ _ c.if-set-lt1.false c.requires.6 made.answer made.rows in record { answer = whole.0; rows = whole.1 }

@@ -11,4 +11,4 @@ slice_bounds-again-end c =
 
 pub decapsulated_with_buffers-requires : goal.decapsulated_with_buffers-requires
 decapsulated_with_buffers-requires c =
-    (c.requires.0, c.requires.1, search rules, search rules, search rules, search rules, search rules, search rules, search rules)
+    (c.requires.0, c.requires.1, search rules, search rules, search rules, search rules)

@@ -36,7 +36,7 @@ returns-then-not-key_below c =
 
 pub decrypt-requires : goal.decrypt-requires
 decrypt-requires c =
-    (c.requires.0, c.requires.1, search rules, search rules, search rules, search rules, search rules)
+    (c.requires.0, c.requires.1, search rules, search rules, search rules)
 
 pub returns-in_err-decrypt : goal.returns-in_err-decrypt
 returns-in_err-decrypt c =
@@ -47,7 +47,7 @@ returns-in_err-decrypt c =
 
 pub key_of_message-requires : goal.key_of_message-requires
 key_of_message-requires c =
-    (c.requires.0, c.requires.1, search rules, search rules, search rules, search rules, search rules, search rules, search rules)
+    (c.requires.0, c.requires.1, search rules, search rules, search rules, search rules)
 
 pub returns : goal.returns
 returns c =

@@ -8,5 +8,5 @@ returns c =
     let p = c.args.p in
     let seed = c.args.seed.now in
     let halves = c.source_bytes.ensures.bytes in
-    let inner = inner_made p seed _ _ c.requires.1 halves in
-    record { halves = halves_made p seed _ _ c.requires.1 halves; secret = seed_made p seed _ _ _ c.requires.2 inner c.source_bytes-2.ensures.bytes }
+    let inner = inner_made p seed _ _ c.told-expanded halves in
+    record { halves = halves_made p seed _ _ c.told-expanded halves; secret = seed_made p seed _ _ _ c.told-inner inner c.source_bytes-2.ensures.bytes }

@@ -15,7 +15,7 @@ use Rattle.cca_steps.proofs.decapsulation.key_of_message.Goals as goal
 
 pub encapsulate-requires : goal.encapsulate-requires
 encapsulate-requires c =
-    (c.requires.0, c.requires.1, search rules, search rules, search rules, search rules)
+    (c.requires.0, c.requires.1, search rules, search rules, search rules)
 
 -- what encapsulating again answers
 again : (c : After-encapsulate) {o : Outcome}

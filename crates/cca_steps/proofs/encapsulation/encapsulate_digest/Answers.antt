@@ -11,9 +11,13 @@ use Rattle.cca_steps.proofs.Steps.{ciphertext_made}
 use Rattle.cca_steps.proofs.encapsulation.encapsulate_digest.Goals.{After-encrypt}
 use Rattle.cca_steps.proofs.encapsulation.encapsulate_digest.Goals as goal
 
+-- the first half of the digest is a seed
+pub unwrap-requires : goal.unwrap-requires
+unwrap-requires c = c.first_chunk.ensures.variant.1 (omega (arith, c.told-digest))
+
 pub encrypt-requires : goal.encrypt-requires
 encrypt-requires c =
-    (c.requires.0, c.requires.1, search rules, search rules, search rules, search rules, search rules)
+    (c.requires.0, c.requires.1, search rules, search rules, search rules)
 
 pub returns-in_err-encrypt : goal.returns-in_err-encrypt
 returns-in_err-encrypt c =
@@ -33,7 +37,8 @@ returns c =
     let args = c.args in
     let decided = sym c.in_ok-encrypt.ensures.answer in
     let old = args.ciphertext.now in
-    let size : length old ≡ length old - 32 + 32 = omega (arith, c.requires.6) in
+    let seed = (rw c.unwrap.ensures at c.first_chunk.ensures.cases).same in
+    let size : length old ≡ length old - 32 + 32 = omega (arith, c.requires.4) in
     let whole = ciphertext_made args.p args.public.now args.message.now args.digest.now old _ _ (length old - 32) decided
-    c.requires.5 c.requires.4 size (front_size (goal.at.returns c).After-encrypt) c.in_ok-encrypt.ensures.sealed c.copy_in.ensures in
+    c.requires.3 c.told-digest size (front_size (goal.at.returns c).After-encrypt) (rw seed at c.in_ok-encrypt.ensures.sealed) c.copy_in.ensures in
     record { answer = sym decided; given = whole }

@@ -8,4 +8,4 @@ pub encapsulate_digest-requires : goal.encapsulate_digest-requires
 encapsulate_digest-requires c =
     let pre = c.requires in
     let digest = c.shake256_into in
-    (pre.0, pre.1, pre.2, pre.3, digest.auto.out ∙ pre.6, digest.ensures ∙ ap (shake256 c.args.message.now) pre.6, pre.4, pre.5)
+    (pre.0, pre.1, pre.2, digest.ensures ∙ ap (shake256 c.args.message.now) c.told-digest, pre.3, pre.4)

@@ -37,4 +37,4 @@ first_with_buffers-requires c =
     ∙ c.table_length-length.ensures in
     let long = array_front 3328 c.transform_size-size.result (vectors_fit (goal.at.first_with_buffers-requires c).After-table_length-length)
     ∙ c.transform_size-size.ensures in
-    (pre.0, pre.1, pre.2, pre.3, pre.4, table, long, long, long)
+    (pre.0, pre.1, pre.2, pre.3, table, long, long, long)

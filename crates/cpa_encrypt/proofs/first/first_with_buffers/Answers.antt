@@ -14,7 +14,7 @@ use Rattle.cpa_encrypt.proofs.first.first_with_buffers.Goals as goal
 pub sum_products-requires : goal.sum_products-requires
 sum_products-requires c =
     let pre = c.requires in
-    (pre.0, pre.1, pre.2, pre.3, c.load_tables.ensures, c.clear.ensures ∙ ap (λ (n : ℕ). replicate n 0) pre.6, pre.7, pre.8)
+    (pre.0, pre.1, pre.2, c.load_tables.ensures, c.clear.ensures ∙ ap (λ (n : ℕ). replicate n 0) pre.5, pre.6, pre.7)
 
 pub returns-in_err-sum_products : goal.returns-in_err-sum_products
 returns-in_err-sum_products c =
@@ -37,7 +37,7 @@ returns c =
     let decided = sym added.answer in
     let taken = not-false _ (refuse_accepted _ 5 0 accepted decided).0 in let whole = accepted_call _ _ decided
     (c.pack_into.ensures
-    ∙ first_packed c.args.p pre.1 c.args.seed.now c.args.multipliers.now _ _ pre.3 taken pre.4 (added.result refl)) in record {
+    ∙ first_packed c.args.p pre.1 c.args.seed.now c.args.multipliers.now _ _ pre.2 taken pre.3 (added.result refl)) in record {
       answer = whole.0;
       left = whole.1;
     }

@@ -20,10 +20,10 @@ state c = state_at c.args.seed.now c.args.counter
 
 -- the numbers are drawn into the first n places
 front_size : (c : Start) → length (take (c.args.p.n - 0) (drop 0 c.args.y.now)) ≡ c.args.p.n
-front_size c = front_length c.args.y.now c.args.p.n (omega (arith, c.requires.5, polynomial_fits c.args.p c.requires.1))
+front_size c = front_length c.args.y.now c.args.p.n (omega (arith, c.requires.4, polynomial_fits c.args.p c.requires.1))
 
-pub slice_bounds-residues_from-end : goal.slice_bounds-residues_from-end
-slice_bounds-residues_from-end c = omega (arith, c.requires.5, polynomial_fits c.args.p c.requires.1)
+pub slice_bounds-residues_from-end-2 : goal.slice_bounds-residues_from-end-2
+slice_bounds-residues_from-end-2 c = omega (arith, c.requires.4, polynomial_fits c.args.p c.requires.1)
 
 pub residues_from-requires : goal.residues_from-requires
 residues_from-requires c =
@@ -32,10 +32,10 @@ residues_from-requires c =
     let bytes = pre.0 in
     let size = front_size (goal.at.residues_from-requires c).Start in
     record {
-      rules = (kept, omega (arith, pre.3), bytes.some_bytpca, omega (arith, bytes.most_bytpca));
+      rules = (kept, omega (arith, c.told-seed), bytes.some_bytpca, omega (arith, bytes.most_bytpca));
       out_nonzero = (
         omega (arith, size, kept.some_n),
-        omega (arith, size, kept.most_n, pre.4),
+        omega (arith, size, kept.most_n, pre.3),
       );
     }
 
@@ -48,7 +48,7 @@ drawn c =
 
 pub send_first-requires : goal.send_first-requires
 send_first-requires c =
-    let placed = drawn_placed c.args.p c.requires.1 (state (goal.at.send_first-requires c).Start) c.args.y.now _ c.requires.5 in
+    let placed = drawn_placed c.args.p c.requires.1 (state (goal.at.send_first-requires c).Start) c.args.y.now _ c.requires.4 in
     (c.requires.1, c.requires.2.lent, placed (drawn (goal.at.send_first-requires c).In_ok-next))
 
 -- the answer of the draw is that of n numbers
@@ -72,5 +72,5 @@ returns c =
     record {
       answer = c.in_ok-next.ensures.answer ∙ whole (goal.at.returns c).Start;
       result = drawn_sent c.args.p c.requires.1 (state (goal.at.returns c).Start)
-          c.args.y.now _ c.requires.5 (drawn (goal.at.returns c).In_ok-next) _ (c.send_first.ensures.root c.requires.2);
+          c.args.y.now _ c.requires.4 (drawn (goal.at.returns c).In_ok-next) _ (c.send_first.ensures.root c.requires.2);
     }

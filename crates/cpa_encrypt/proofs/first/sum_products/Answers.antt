@@ -17,7 +17,7 @@ new-reducer-requires c =
     rules_odd c.args.p (listed_rules c.args.p c.requires.1)
 
 pub loop-i-init : goal.loop-i-init
-loop-i-init c = adding_none c.args.p c.requires.1 _ _ _ _ _ c.requires.5 c.requires.6 c.requires.7
+loop-i-init c = adding_none c.args.p c.requires.1 _ _ _ _ _ c.requires.4 c.requires.5 c.requires.6
 
 -- a turn is one of t
 turn_below : (c : In-loop-i) → c.loop-i.i < c.args.p.t
@@ -26,14 +26,14 @@ turn_below c = omega arith
 pub send_multipliers-requires : goal.send_multipliers-requires
 send_multipliers-requires c =
     let pre = c.requires in
-    (pre.1, pre.4, pre.3, turn_below (goal.at.send_multipliers-requires c).In-loop-i, c.loop-i.invariant.x_size)
+    (pre.1, pre.3, pre.2, turn_below (goal.at.send_multipliers-requires c).In-loop-i, c.loop-i.invariant.x_size)
 
 pub send_drawn-requires : goal.send_drawn-requires
 send_drawn-requires c =
     let pre = c.requires in
     let inv = c.loop-i.invariant in
     let small = counter_small c.args.p pre.1 c.args.seed.now c.args.multipliers.now pre.0 inv.within inv.reached in
-    (pre.0, pre.1, pre.4, pre.2, small, inv.y_size)
+    (pre.0, pre.1, pre.3, small, inv.y_size)
 
 pub returns-in_err-counter : goal.returns-in_err-counter
 returns-in_err-counter c =

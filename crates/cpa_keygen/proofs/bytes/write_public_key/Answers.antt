@@ -27,7 +27,7 @@ vectors_part c =
 
 pub copy_in-requires : goal.copy_in-requires
 copy_in-requires c =
-    omega (arith, c.requires.byte_rules.2, c.requires.byte_rules.4, seed_room c.args.p)
+    omega (arith, c.told-seed, c.requires.byte_rules.3, seed_room c.args.p)
 
 pub offset_bounds-work-start : goal.offset_bounds-work-start
 offset_bounds-work-start c =
@@ -37,15 +37,15 @@ offset_bounds-work-start c =
 pub slice_bounds-pack_into-end : goal.slice_bounds-pack_into-end
 slice_bounds-pack_into-end c =
     let pre = c.requires.byte_rules in
-    omega (arith, c.vectors_end-end.ensures, pre.3, vectors_room c.args.p pre.0 pre.1)
+    omega (arith, c.vectors_end-end.ensures, pre.2, vectors_room c.args.p pre.0 pre.1)
 
 pub slice_bounds-pack_into-count-2 : goal.slice_bounds-pack_into-count-2
 slice_bounds-pack_into-count-2 c =
-    omega (arith, c.copy_in.auto.dst, c.requires.byte_rules.4, seed_room c.args.p)
+    omega (arith, c.copy_in.auto.dst, c.requires.byte_rules.3, seed_room c.args.p)
 
 pub slice_bounds-pack_into-start-2 : goal.slice_bounds-pack_into-start-2
 slice_bounds-pack_into-start-2 c =
-    omega (arith, c.copy_in.auto.dst, c.requires.byte_rules.4, seed_room c.args.p)
+    omega (arith, c.copy_in.auto.dst, c.requires.byte_rules.3, seed_room c.args.p)
 
 pub pack_into-requires : goal.pack_into-requires
 pack_into-requires c =
@@ -64,11 +64,11 @@ returns c =
     let copied = c.copy_in in
     let packed = c.pack_into in
     let bytes = packed_bytes_of (p.d1 * p.t) p.width in
-    let room : length copied.new.dst ≡ 32 + bytes = copied.auto.dst ∙ pre.4 in
+    let room : length copied.new.dst ≡ 32 + bytes = copied.auto.dst ∙ pre.3 in
     let rest : length (take (length copied.new.dst - 32) (drop 32 copied.new.dst)) ≡ bytes =
     part_length copied.new.dst 32 (length copied.new.dst) bytes room (omega arith) in
     let made : packed.new.out ≡ pack p.width bytes (region c.args.work.now (vectors_start_of p) (p.d1 * p.t)) =
     rw (vectors_part (goal.at.returns c).After-vectors_end-end, rest) at packed.ensures in
-    two_parts c.args.out.now copied.new.dst c.args.seed.now packed.new.out 32 copied.ensures pre.2
-    (pre.4 ∙ ap (λ (n : ℕ). 32 + n) (sym (ap length made ∙ pack_length p.width _ _)))
+    two_parts c.args.out.now copied.new.dst c.args.seed.now packed.new.out 32 copied.ensures c.told-seed
+    (pre.3 ∙ ap (λ (n : ℕ). 32 + n) (sym (ap length made ∙ pack_length p.width _ _)))
     ∙ rw made

@@ -18,16 +18,16 @@ below c = omega arith
 
 pub loop-i-init : goal.loop-i-init
 loop-i-init c =
-    (refl, refl, vectors_none c.args.p c.requires.0 c.requires.1 c.args.seed.now c.args.work.now c.requires.6)
+    (refl, refl, vectors_none c.args.p c.requires.0 c.requires.1 c.args.seed.now c.args.work.now c.requires.5)
 
 pub next_vector-requires : goal.next_vector-requires
 next_vector-requires c =
     let pre = c.requires in
     let p = c.args.p in
     let held =
-    held_still p pre.0 pre.1 c.args.seed.now c.args.work.now pre.6 c.loop-i.i c.loop-i.counter c.loop-i.work
+    held_still p pre.0 pre.1 c.args.seed.now c.args.work.now pre.5 c.loop-i.i c.loop-i.counter c.loop-i.work
     c.loop-i.invariant.2 in
-    (pre.0, pre.1, pre.2, omega arith, c.loop-i.invariant.2.state_is, pre.3, pre.4, c.loop-i.invariant.0 ∙ pre.5, held)
+    (pre.0, pre.1, omega arith, c.loop-i.invariant.2.state_is, pre.2, pre.3, c.loop-i.invariant.0 ∙ pre.4, held)
 
 pub returns-in_err-counter : goal.returns-in_err-counter
 returns-in_err-counter c =
@@ -53,7 +53,7 @@ loop-i-preserved c =
     let drawn = advanced _ _ (public_drawn p seed this.i) c.in_ok-counter.ensures.answer in (
       vector.auto.x ∙ this.invariant.0,
       vector.auto.work ∙ this.invariant.1,
-      vectors_more p pre.0 pre.1 seed c.args.work.now pre.6 this.i this.counter this.work this.invariant.2 _ _
+      vectors_more p pre.0 pre.1 seed c.args.work.now pre.5 this.i this.counter this.work this.invariant.2 _ _
           (below (goal.at.loop-i-preserved c).After-next_vector)
           drawn.all_taken_lem drawn.next_is (vector.ensures.result drawn.all_taken_lem),
     )

@@ -21,10 +21,10 @@ use Rattle.cpa_keygen.proofs.vectors.draw_polynomial.Goals as goal
 room : (c : Start) → c.args.p.n ≤ length c.args.x.now
 room c =
     let kept = listed_rules c.args.p c.requires.1 in
-    omega (arith, c.requires.5, third_size c.args.p, kept.holds3, kept.some_d, kept.some_k)
+    omega (arith, c.requires.4, third_size c.args.p, kept.holds3, kept.some_d, kept.some_k)
 
-pub slice_bounds-residues_from-end : goal.slice_bounds-residues_from-end
-slice_bounds-residues_from-end c = room (goal.at.slice_bounds-residues_from-end c).Start
+pub slice_bounds-residues_from-end-2 : goal.slice_bounds-residues_from-end-2
+slice_bounds-residues_from-end-2 c = room (goal.at.slice_bounds-residues_from-end-2 c).Start
 
 pub residues_from-requires : goal.residues_from-requires
 residues_from-requires c =
@@ -32,11 +32,11 @@ residues_from-requires c =
     let pre = c.requires in
     let kept = listed_rules p pre.1 in
     let bytes = pre.0 in
-    let small = public_state_small p kept bytes c.args.seed.now c.args.i (omega (arith, pre.3)) in
-    let counter = ap (λ (s : State). s.counter) pre.4 in
+    let small = public_state_small p kept bytes c.args.seed.now c.args.i (omega (arith, pre.2)) in
+    let counter = ap (λ (s : State). s.counter) pre.3 in
     rw (front_length c.args.x.now p.n (room (goal.at.residues_from-requires c).Start))
     (record {
-      rules = (kept, omega (arith, pre.2), bytes.some_bytpca, omega (arith, bytes.most_bytpca));
+      rules = (kept, omega (arith, c.told-seed), bytes.some_bytpca, omega (arith, bytes.most_bytpca));
       out_nonzero = (kept.some_n, omega (arith, counter, small, kept.most_n));
     })
 
@@ -48,8 +48,8 @@ returns c =
     let i = c.args.i in
     let drawn = c.residues_from in
     let front = front_length c.args.x.now p.n (room (goal.at.returns c).Start) in record {
-      answer = drawn.ensures.answer ∙ public_answer p seed i front c.requires.4;
+      answer = drawn.ensures.answer ∙ public_answer p seed i front c.requires.3;
       result = λ t.
           take_at drawn.new.out _ p.n (drawn.auto.out ∙ front)
-          ∙ drawn.ensures.result (public_polynomial p seed i) (public_draw p seed i front c.requires.4 ∙ taken_numbers (public_drawn p seed i) t);
+          ∙ drawn.ensures.result (public_polynomial p seed i) (public_draw p seed i front c.requires.3 ∙ taken_numbers (public_drawn p seed i) t);
     }

@@ -28,17 +28,17 @@ key_vector-requires c =
     let polynomial = c.draw_polynomial in
     let drawn = advanced _ _ (public_drawn p seed c.args.i) c.in_ok-next.ensures.answer in
     let placed =
-    polynomial_placed p pre.1 seed polynomial.new.x c.args.i (polynomial.auto.x ∙ pre.7)
+    polynomial_placed p pre.1 seed polynomial.new.x c.args.i (polynomial.auto.x ∙ pre.6)
     (polynomial.ensures.result drawn.all_taken_lem) in
-    (pre.0, pre.1, pre.3, pre.5, placed, pre.8)
+    (pre.0, pre.1, pre.2, pre.4, placed, pre.7)
 
 pub store_vector-requires : goal.store_vector-requires
 store_vector-requires c =
     let pre = c.requires in
     let vector = c.key_vector in
-    let size = vector.auto.x ∙ c.draw_polynomial.auto.x ∙ pre.7 in
+    let size = vector.auto.x ∙ c.draw_polynomial.auto.x ∙ pre.6 in
     let below = vector_below c.args.p pre.1 vector.new.x _ c.args.work.now c.args.i vector.ensures in
-    (pre.0, pre.1, pre.3, pre.6, size, below, pre.8.size)
+    (pre.0, pre.1, pre.2, pre.5, size, below, pre.7.size)
 
 pub returns : goal.returns
 returns c =

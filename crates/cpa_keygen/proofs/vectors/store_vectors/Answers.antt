@@ -29,9 +29,8 @@ vectors_with_buffers-requires c =
     let size = c.transform_size-size in (
       pre.0,
       pre.1,
-      pre.2,
       array_front 3605 third.result (omega (arith, third.ensures, table_most p pre.1 3)) ∙ third.ensures,
       array_front 3605 first.result (omega (arith, first.ensures, table_most p pre.1 1)) ∙ first.ensures,
       array_front 3328 size.result (omega (arith, size.ensures, size_most p (listed_rules p pre.1) 3)) ∙ size.ensures,
-      pre.3,
+      pre.2,
     )

@@ -46,5 +46,4 @@ rows_with_buffers-requires c =
     let sent = c.cpa_ciphertext_bytes-ciphertext_size in
     let ciphertext = array_front 8320 sent.result (ciphertext_fits (goal.at.rows_with_buffers-requires c).After-cpa_ciphertext_bytes-ciphertext_size)
     ∙ sent.ensures in
-    let seed = array_front 32 32 (omega arith) in
-    (pre.0, pre.1, pre.2, pre.3, pre.4, public, seed, ciphertext, seed, pre.5, pre.6, pre.7, pre.8)
+    (pre.0, pre.1, public, ciphertext, pre.2, pre.3, pre.4, pre.5)
