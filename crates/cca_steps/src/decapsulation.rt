@@ -60,15 +60,7 @@ fn decrypt(
         (decapsulated_message p secret.now ciphertext.now) message.old }
 {
     let mut inner = [0u8; 32];
-    decrypt_with_buffers(
-        p,
-        secret,
-        ciphertext,
-        expanded,
-        message,
-        work,
-        &mut inner,
-    )
+    decrypt_with_buffers(p, secret, ciphertext, expanded, message, work, &mut inner)
 }
 
 // Encapsulates the message read again, and hashes it, or the reject bytes, into the shared key; `again` is lent for the ciphertext.

@@ -52,13 +52,5 @@ pub fn keygen(
 {
     let mut expanded = [0u8; 64];
     let mut inner = [0u8; 32];
-    keygen_with_buffers(
-        p,
-        seed,
-        public,
-        secret,
-        work,
-        &mut expanded,
-        &mut inner,
-    )
+    keygen_with_buffers(p, seed, public, secret, work, &mut expanded, &mut inner)
 }

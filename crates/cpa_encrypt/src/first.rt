@@ -23,7 +23,13 @@ use samplers::Advance;
 use sets::Parameters;
 
 // Draws one public polynomial from the output of `counter` on and sends it.
-fn send_drawn(p: Parameters, tables: &[u32], seed: &[u8; 32], counter: u32, y: &mut [u32]) -> Advance
+fn send_drawn(
+    p: Parameters,
+    tables: &[u32],
+    seed: &[u8; 32],
+    counter: u32,
+    y: &mut [u32],
+) -> Advance
     requires { ByteRules p × Listed p × RootTables p 2 tables.now × (counter < 2 ^ 31) × (length y.old ≡ transform_size_of p 2) }
     ensures answer { onward seed.now result ≡ uniform_answer p (state_at seed.now counter) p.bytpca p.n }
     ensures result { (xs : List ℕ) → (uniform p (state_at seed.now counter) p.bytpca p.n).drawn ≡ taken xs → y.new ≡ sent p 2 xs }
