@@ -83,4 +83,5 @@ returns c =
     let message = (rw c.unwrap-2.ensures at c.as_array-2.ensures.cases).same in
     let sealing = (rw c.unwrap-3.ensures at c.as_array-3.ensures.cases).same in
     let made = rw (seed, message, sealing) at c.seeded_rows.ensures in
-    let whole = seeded_filled c.args.set c.args.p c.args.input.now _ _ _ _ c.if-set-lt1.false c.requires.6 made.answer made.rows in record { answer = whole.0; rows = whole.1 }
+    let whole = seeded_filled c.args.set c.args.p c.args.input.now _ _ _ _ c.if-set-lt1.false c.requires.6 made.answer made.rows in
+    record { answer = whole.0; rows = whole.1 }

@@ -45,5 +45,6 @@ returns c =
     let args = c.args in
     let first = c.keygen.ensures in
     let left =
-    three_steps (listed_conditions args.p c.requires.0 c.requires.1) args.seed.now args.message.now args.sealing.now (drawn (goal.at.returns c).In_ok-keygen) _ _ _ _
-    first.public first.secret c.encrypt.ensures.sealed c.decrypt.ensures.read in record { answer = c.in_ok-keygen.ensures.answer; key = λ _. left.0; read = λ _. left.1 }
+    three_steps (listed_conditions args.p c.requires.0 c.requires.1) args.seed.now args.message.now args.sealing.now
+    (drawn (goal.at.returns c).In_ok-keygen) _ _ _ _ first.public first.secret c.encrypt.ensures.sealed c.decrypt.ensures.read in
+    record { answer = c.in_ok-keygen.ensures.answer; key = λ _. left.0; read = λ _. left.1 }
