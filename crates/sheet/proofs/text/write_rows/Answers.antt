@@ -15,7 +15,7 @@ pub write_accepted-requires : goal.write_accepted-requires
 write_accepted-requires c =
     let pre = c.requires in
     let made = c.fill-answer in
-    let rows = made.ensures.rows (ap outcome c.in-Done.is) in
+    let rows = made.ensures.rows (ap outcome c.in-Ok.is) in
     let rules = rules_of c.args.set (sheet_set c.args.set pre.0) _ pre.7 in
     let long = c.fill-answer.auto.noise ∙ pre.2 in (
       rules,
@@ -24,16 +24,16 @@ write_accepted-requires c =
       pre.5,
     )
 
-pub returns-in-Done : goal.returns-in-Done
-returns-in-Done c =
+pub returns-in-Ok : goal.returns-in-Ok
+returns-in-Ok c =
     let made = c.fill-answer.ensures in
-    let done = ap outcome c.in-Done.is in
+    let done = ap outcome c.in-Ok.is in
     printed_as (accepted_text c.args.set c.args.p c.args.input.now c.requires.7 made.answer done (made.rows done))
     c.write_accepted.ensures
 
-pub returns-in-Refused : goal.returns-in-Refused
-returns-in-Refused c =
-    let made = c.write_refused.ensures in
+pub returns-in-Err : goal.returns-in-Err
+returns-in-Err c =
+    let made = rw (c.number.ensures, c.place.ensures) at c.write_refused.ensures in
     printed_as
-    (refused_text_lem (rows_text c.args.set c.args.input.now) (sym c.fill-answer.ensures.answer ∙ ap outcome c.in-Refused.is))
+    (refused_text_lem (rows_text c.args.set c.args.input.now) (sym c.fill-answer.ensures.answer ∙ ap outcome c.in-Err.is))
     (record { count_is = made.value; short = made.upper_bound; text_is = made.out_after })
