@@ -37,8 +37,6 @@ decrypt-requires c =
     let work = c.if-work-work_length.false ∙ c.work_length.ensures in (
       bytes (goal.at.decrypt-requires c).After-parameters_of-p,
       listed (goal.at.decrypt-requires c).After-parameters_of-p,
-      c.if-seed-ne32.false,
       sealed,
-      c.if-message-ne32.false,
       work,
     )

@@ -47,7 +47,6 @@ numbers_before_packing-requires c =
       listed (goal.at.numbers_before_packing-requires c).After-parameters_of-p,
       public,
       below,
-      c.if-seed-ne32.false,
       count,
       work,
     )
