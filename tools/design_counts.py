@@ -8,7 +8,9 @@ args = [a for a in args if a != '-v']
 if args:
     os.chdir(args[0])
 
-FN = re.compile(r'(?m)^( *)((?:pub(?:\(\w+\))? )?(?:unsafe )?(?:extern "C" )?(?:const )?fn (\w+)(?:[^{;\[]|\[[^\]]*\]|\{[^{}]*\})*?)\n?\1\{\n((?:.|\n)*?)^\1\}', re.M)
+FN = re.compile(
+    r'(?m)^( *)((?:pub(?:\(\w+\))? )?(?:unsafe )?(?:extern "C" )?(?:const )?fn (\w+)(?:[^{;\[]|\[[^\]]*\]|\{[^{}]*\})*?)\n?\1\{\n'
+    r'((?:.|\n)*?)^\1\}', re.M)
 sources = sorted(f for f in glob.glob('crates/*/src/**/*.rt', recursive=True))
 text = {f: open(f).read() for f in sources}
 
