@@ -114,7 +114,10 @@ pub fn copy_in<T: Copy>(dst: &mut [T], at: usize, src: &[T])
     requires { at + length src.now ≤ length dst.old }
     ensures { dst.new ≡ over dst.old at src.now }
 {
-    dst[at..at + src.len()].copy_from_slice(src);
+    // entry by entry, which the compiler makes a memcpy of: of `copy_from_slice` it made a memmove, which a caller in C would have to link
+    for (i, entry) in src.iter().enumerate() {
+        dst[at + i] = *entry;
+    }
 }
 
 // Fills `dst` with the numbers from `at` on.
@@ -122,5 +125,6 @@ pub fn copy_out(dst: &mut [u32], work: &[u32], at: usize)
     requires { at + length dst.old ≤ length work.now }
     ensures { dst.new ≡ region work.now at (length dst.old) }
 {
-    dst.copy_from_slice(&work[at..at + dst.len()]);
+    let end = at + dst.len();
+    copy_in(dst, 0, &work[at..end]);
 }

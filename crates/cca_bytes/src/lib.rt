@@ -26,6 +26,8 @@ pub fn same_bytes(x: &[u8], y: &[u8]) -> bool
 }
 
 // The part that is hashed into a shared key: the message where encapsulating it again agrees, else the reject bytes, which stand after the inner seed.
+// Not compiled into its caller, where the choice of the two addresses became a jump on whether the ciphertexts agree.
+#[inline(never)]
 pub fn hashed_part<'a>(agrees: bool, message: &'a [u8], expanded: &'a [u8]) -> &'a [u8]
     requires { (length message.now ≡ 32) × (length expanded.now ≡ 64) }
     ensures part { result.now ≡ cond agrees message.now (drop 32 expanded.now) }

@@ -75,3 +75,21 @@ module _ {bytes : List ℕ} {at q threshold before position run : ℕ} (s : Samp
     -- the candidate is the last that may be set aside
     pub sampling_last : threshold ≤ c → run + 1 ≡ 128 → refusal 5 ≡ sample_at q threshold before bytes at
     sampling_last l n = sym (first ∙ sample_last q threshold run position c _ (verdict_last threshold run c l (omega arith)))
+
+-- the draw goes on, or the last candidate that may be set aside was
+pub record Sampled (bytes : List ℕ) (at q threshold before position run : ℕ) : Type 0 where
+  pub going : run < 128 → Sampling bytes at q threshold before position run
+  pub spent : 128 ≤ run → refusal 5 ≡ sample_at q threshold before bytes at
+
+-- before the first candidate
+pub sampled_none : (bytes : List ℕ) (at q threshold before : ℕ) → before < 128 → Sampled bytes at q threshold before at before
+sampled_none bytes at q threshold before h =
+    record { going = λ _. sampling_none bytes at q threshold before h; spent = λ most. absurd (omega (arith, h, most)) }
+
+-- a candidate is set aside
+pub sampled_next :
+    {bytes : List ℕ} {at q threshold before position run c : ℕ} →
+    Sampling bytes at q threshold before position run → position + 3 ≤ length bytes → c ≡ little_endian (region bytes position 3) → threshold ≤ c
+    → Sampled bytes at q threshold before (position + 3) (run + 1)
+sampled_next s h e l =
+    record { going = λ less. sampling_aside s h e l (λ most. omega (arith, less, most)); spent = λ most. sampling_last s h e l (omega (arith, s.less, most)) }

@@ -24,18 +24,20 @@ pub fn draw_one(bytes: &[u8], at: usize, q: u32, threshold: u32, before: u32) ->
     ensures { sample result ≡ sample_at q threshold before bytes.now at }
 {
     let scale = residues::scale(q);
-    let mut run = before;
-    for position in (at..bytes.len().saturating_sub(2)).step_by(3) {
-        let candidate = candidate_at(bytes, position);
-        if candidate < threshold {
-            return Ok((residues::reduce_scaled(candidate, q, scale), position + 3));
+    let end = bytes.len().saturating_sub(2);
+    // the position goes on by hand: a range by steps of three took a quarter more instructions
+    let mut position = at;
+    for _run in before..128 {
+        if end <= position {
+            return Err(DrawRefusal::BytesEnded);
         }
-        run += 1;
-        if run == 128 {
-            return Err(DrawRefusal::SetAside);
+        let candidate = candidate_at(bytes, position);
+        position += 3;
+        if candidate < threshold {
+            return Ok((residues::reduce_scaled(candidate, q, scale), position));
         }
     }
-    Err(DrawRefusal::BytesEnded)
+    Err(DrawRefusal::SetAside)
 }
 
 // The answer of a draw of residues: the first refusal with its result's place. Nothing is written.

@@ -46,6 +46,6 @@ pub fn load_reversed(x: &mut [u32], a: &[u32])
         ≡ over x.old 0 (tabulate (length a.now) (λ j. at a.now (length a.now - 1 - j))) }
 {
     let front = &mut x[0..a.len()];
-    front.copy_from_slice(a);
+    calls::copy_in(front, 0, a);
     front.reverse();
 }

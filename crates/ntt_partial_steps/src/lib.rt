@@ -77,8 +77,8 @@ pub fn inverse_wide(p: Parameters, i: usize, m: usize, input: &[u32], out: &mut 
     let length = ntt_products::table_length(p, i);
     let tables = &mut room[0..length];
     let x = &mut places[0..input.len()];
-    x.copy_from_slice(input);
+    calls::copy_in(x, 0, input);
     ntt_products::load_tables(p, i, WhichRoot::Inverse, tables);
     ntt_products::recover_first(p, i, tables, x, end);
-    out.copy_from_slice(&x[0..end]);
+    calls::copy_out(out, x, 0);
 }

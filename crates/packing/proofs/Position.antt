@@ -10,6 +10,11 @@ pub record Position (from to i bit j : ℕ) : Type 0 where
   pub place : from * i + bit ≡ to * j
   pub low : bit < from
 
+-- the next digit begins `to` bits further, with n digits passed
+pub position_next : {from to i bit j i' bit' : ℕ} (n : ℕ) → Position from to i bit j → i' ≡ i + n → from * n + bit' ≡ bit + to → bit' < from
+    → Position from to i' bit' (j + 1)
+position_next n p passed e h = record { place = rw passed (omega arith); low = h }
+
 -- numbers of 8 bits or more: no more are passed than bytes are written
 pub numbers_passed : {kept i bit j : ℕ} → Position kept 8 i bit j → 8 ≤ kept → i ≤ j
 numbers_passed {i = i} p h = omega (arith, mul-le-mul_right i h)

@@ -102,8 +102,16 @@ pub fn pack_dropping(numbers: &[u32], width: u32, cmp: u32, out: &mut [u8])
 {
     let kept = width - cmp;
     let written = pack_words(numbers, width, cmp, out);
+    // the position goes on with the bytes: the divisions by the width are made once a call, and not for each byte
+    let mut i = number_with(written, kept);
+    let mut bit = bit_of(written, kept);
     for j in written..out.len() {
-        out[j] = byte_of(numbers, number_with(j, kept), bit_of(j, kept), kept, cmp);
+        out[j] = byte_of(numbers, i, bit, kept, cmp);
+        bit += 8;
+        if bit >= kept {
+            bit -= kept;
+            i += 1;
+        }
     }
 }
 
@@ -147,14 +155,12 @@ fn window_at(bytes: &[u8], j: usize) -> u32
     }
 }
 
-// Number i, of which `kept` high bits stand in the bytes, with zeros for its low `cmp`: number i % 8 of a group of eight, which are `kept` bytes.
-fn number_of(bytes: &[u8], i: usize, kept: u32, cmp: u32) -> u32
-    requires { (i < 2 ^ 61) × (kept + cmp ≤ 24) }
-    ensures { result ≡ four_bytes bytes.now (i / 8 * kept + i % 8 * kept / 8) / 2 ^ (i % 8 * kept % 8) % 2 ^ kept * 2 ^ cmp }
+// The number whose `kept` high bits begin at a bit of byte j, with zeros for its low `cmp`.
+fn number_of(bytes: &[u8], j: usize, bit: u32, kept: u32, cmp: u32) -> u32
+    requires { (j < 2 ^ 63) × (bit < 8) × (kept + cmp ≤ 24) }
+    ensures { result ≡ four_bytes bytes.now j / 2 ^ bit % 2 ^ kept * 2 ^ cmp }
 {
-    let bits = i % 8 * (kept as usize);
-    let word = window_at(bytes, i / 8 * (kept as usize) + bits / 8);
-    bit_fields::number_in(word, (bits % 8) as u32, kept, cmp)
+    bit_fields::number_in(window_at(bytes, j), bit, kept, cmp)
 }
 
 // Number k of the eight that begin with byte j, far from the end. Apart from `number_of`, which tests for the end of the bytes at each number.
@@ -179,7 +185,7 @@ fn unpack_group(bytes: &[u8], j: usize, kept: u32, cmp: u32, out: &mut [u32], i:
 // Unpacks as `unpack_dropped` does, eight numbers at a time, and gives how many numbers are written.
 fn unpack_groups(bytes: &[u8], width: u32, cmp: u32, out: &mut [u32]) -> usize
     requires { Widths width cmp }
-    ensures { (result ≤ length out.old)
+    ensures { (result % 8 ≡ 0) × (result ≤ length out.old)
         × (out.new ≡ over out.old 0 (take result (unpack_dropped_of width cmp (length out.old) bytes.now))) }
 {
     let kept = width - cmp;
@@ -201,8 +207,14 @@ pub fn unpack_dropped(bytes: &[u8], width: u32, cmp: u32, out: &mut [u32])
 {
     let kept = width - cmp;
     let written = unpack_groups(bytes, width, cmp, out);
+    // the position goes on with the numbers: the place of each is not worked out anew
+    let mut j = written / 8 * (kept as usize);
+    let mut bit: u32 = 0;
     for i in written..out.len() {
-        out[i] = number_of(bytes, i, kept, cmp);
+        out[i] = number_of(bytes, j, bit, kept, cmp);
+        bit += kept;
+        j += (bit / 8) as usize;
+        bit %= 8;
     }
 }
 

@@ -44,8 +44,19 @@ pub fn answer(rt: &impl Print, given: Answer) -> io::Result<()> {
     }
 }
 
+// Prints the name of a call, its set, and which lengths were changed.
+pub fn call(rt: &impl Print, name: &[u8], set: usize, change: usize) -> io::Result<()> {
+    rt.write_all(name)?;
+    print!(rt; " {set} {change}")
+}
+
 // Prints the name of a call, the numbers that it was told, and its answer.
-pub fn call(rt: &impl Print, name: &str, numbers: &[usize], given: Answer) -> io::Result<()> {
+pub fn call_and_answer(
+    rt: &impl Print,
+    name: &str,
+    numbers: &[usize],
+    given: Answer,
+) -> io::Result<()> {
     print!(rt; "{name}{}", Spaced(numbers))?;
     answer(rt, given)
 }

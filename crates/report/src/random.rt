@@ -36,7 +36,12 @@ fn number(group: usize, slice: usize, i: usize) -> usize
 }
 
 // Fills values with what `value_of` makes of such numbers.
-pub fn fill<T: Drop, F: Fn(usize) -> T>(values: &mut [T], group: usize, slice: usize, value_of: F)
+pub fn fill_with<T: Drop, F: Fn(usize) -> T>(
+    values: &mut [T],
+    group: usize,
+    slice: usize,
+    value_of: F,
+)
     requires { F.IsAlwaysCallable value_of }
 {
     for (i, value) in values.iter_mut().enumerate() {
@@ -44,9 +49,19 @@ pub fn fill<T: Drop, F: Fn(usize) -> T>(values: &mut [T], group: usize, slice: u
     }
 }
 
+// Fills bytes.
+pub fn fill(values: &mut [u8], group: usize, slice: usize) {
+    fill_with(values, group, slice, crate::low_byte);
+}
+
 // The residue of a number modulo q.
 pub fn residue(x: usize, q: u32) -> u32 {
     ((x % 16777216) as u32).checked_rem(q).unwrap_or(0)
+}
+
+// Fills numbers with residues modulo q.
+pub fn fill_residues(values: &mut [u32], group: usize, slice: usize, q: u32) {
+    fill_with(values, group, slice, |x| residue(x, q));
 }
 
 // A number of at most 4,095 with a minus sign.
@@ -63,4 +78,9 @@ pub fn around(x: usize, size: usize, zero: i32) -> i32 {
         Ordering::Equal => zero,
         Ordering::Greater => ((shifted - bound) % 4096) as i32,
     }
+}
+
+// Fills numbers with signed ones of at most a size; `zero` stands for 0.
+pub fn fill_signed(values: &mut [i32], group: usize, slice: usize, size: usize, zero: i32) {
+    fill_with(values, group, slice, |x| around(x, size, zero));
 }

@@ -61,7 +61,7 @@ impl Line {
 }
 
 // The next line, of at most 16 numbers; none at the end of the script.
-fn next_line<R: Read + Drop>(bytes: &mut Bytes<R>) -> io::Result<Option<Line>> {
+fn line_of<R: Read + Drop>(bytes: &mut Bytes<R>) -> io::Result<Option<Line>> {
     let (command, mut next) = next_number(bytes)?;
     let mut operands = [0; 15];
     for operand in operands.iter_mut() {
@@ -71,6 +71,11 @@ fn next_line<R: Read + Drop>(bytes: &mut Bytes<R>) -> io::Result<Option<Line>> {
         (*operand, next) = next_number(bytes)?;
     }
     Ok((next == Next::Line).then_some(Line { command, operands }))
+}
+
+// The next line that a reader holds.
+pub fn next_line(input: &mut impl Read) -> io::Result<Option<Line>> {
+    line_of(&mut input.bytes())
 }
 
 // The lines of a script that a reader holds.
@@ -91,7 +96,7 @@ impl<R: Read + Drop> Iterator for Script<R> {
     type Item = io::Result<Line>;
 
     fn next(&mut self) -> Option<io::Result<Line>> {
-        next_line(&mut self.bytes).transpose()
+        line_of(&mut self.bytes).transpose()
     }
 }
 

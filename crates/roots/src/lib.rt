@@ -36,5 +36,5 @@ pub fn load_powers(p: Parameters, i: usize, out: &mut [u32])
     requires { Listed p × (length out.old ≡ transform_size_of p i) }
     ensures { out.new ≡ root_powers p i }
 {
-    out.copy_from_slice(powers(p, i));
+    calls::copy_in(out, 0, powers(p, i));
 }

@@ -19,12 +19,7 @@ pub fn residues(line: Line, numbers: &mut [u32]) {
 pub fn random_residues(line: Line, numbers: &mut [u32]) {
     let [place, count, group, slice, modulus, ..] = line.operands;
     let q = script::low_word(modulus);
-    random::fill(
-        report::part_mut(numbers, place, count),
-        group,
-        slice,
-        |x| random::residue(x, q),
-    );
+    random::fill_residues(report::part_mut(numbers, place, count), group, slice, q);
 }
 
 // One number at a place.
@@ -59,10 +54,11 @@ pub fn repeat_signed(line: Line, signed: &mut [i32]) {
 pub fn random_signed(line: Line, signed: &mut [i32]) {
     let [place, count, group, slice, size, zero, ..] = line.operands;
     let zero = (zero % 4096) as i32;
-    random::fill(
+    random::fill_signed(
         report::part_mut(signed, place, count),
         group,
         slice,
-        |x| random::around(x, size, zero),
+        size,
+        zero,
     );
 }

@@ -14,7 +14,7 @@ pub fn plain(rt: &impl Print, line: Line, numbers: &[u32]) -> io::Result<()> {
         report::part(numbers, crate::B, b),
         report::front_mut(&mut out, written),
     );
-    report::call(rt, "plain", &line.operands[..4], answer)?;
+    report::call_and_answer(rt, "plain", &line.operands[..4], answer)?;
     println!(rt; " {}", report::checksum(&out))
 }
 
@@ -30,7 +30,7 @@ pub fn transformed(rt: &impl Print, line: Line, numbers: &[u32]) -> io::Result<(
         report::front_mut(&mut out, written),
         report::front_mut(&mut work, lent),
     );
-    report::call(rt, "transformed", &line.operands[..5], answer)?;
+    report::call_and_answer(rt, "transformed", &line.operands[..5], answer)?;
     println!(rt; " {} {}", report::checksum(&out), report::checksum(&work))
 }
 
@@ -45,7 +45,7 @@ pub fn key(rt: &impl Print, line: Line, numbers: &mut [u32], signed: &[i32]) -> 
         report::part(signed, crate::E, e),
         report::front_mut(&mut b, written),
     );
-    report::call(rt, "key", &line.operands[..5], answer)?;
+    report::call_and_answer(rt, "key", &line.operands[..5], answer)?;
     println!(rt; " {}", report::checksum(&b))?;
     report::repeat(report::part_mut(numbers, crate::B, 10233), &b);
     Ok(())
@@ -65,7 +65,7 @@ pub fn sealing(rt: &impl Print, line: Line, numbers: &mut [u32], signed: &[i32])
         report::front_mut(&mut c1, first),
         report::front_mut(&mut c2, second),
     );
-    report::call(rt, "sealing", &line.operands[..7], answer)?;
+    report::call_and_answer(rt, "sealing", &line.operands[..7], answer)?;
     println!(rt; " {} {}", report::checksum(&c1), report::checksum(&c2))?;
     report::repeat(report::part_mut(numbers, crate::C1, 3072), &c1);
     report::repeat(report::part_mut(numbers, crate::C2, 257), &c2);
@@ -83,7 +83,7 @@ pub fn reading(rt: &impl Print, line: Line, numbers: &[u32]) -> io::Result<()> {
         report::part(numbers, crate::S, s),
         report::front_mut(&mut bits, written),
     );
-    report::call(rt, "reading", &line.operands[..5], answer)?;
+    report::call_and_answer(rt, "reading", &line.operands[..5], answer)?;
     println!(rt; " {}", report::checksum(&bits))
 }
 
@@ -108,6 +108,6 @@ pub fn partial<F: FnOnce(usize, usize, usize, usize, &[u32], &mut [u32]) -> Answ
         report::part(numbers, crate::A, a),
         report::front_mut(&mut out, written),
     );
-    report::call(rt, name, told, answer)?;
+    report::call_and_answer(rt, name, told, answer)?;
     println!(rt; " {}", report::checksum(&out))
 }

@@ -11,7 +11,7 @@ pub fn residues(rt: &impl Print, line: Line, bytes: &[u8]) -> io::Result<()> {
         report::front(bytes, lent),
         report::front_mut(&mut out, wanted),
     );
-    report::call(rt, "residues", &line.operands[..5], answer)?;
+    report::call_and_answer(rt, "residues", &line.operands[..5], answer)?;
     println!(rt; " {}", report::checksum(&out))
 }
 
@@ -23,7 +23,7 @@ fn errors(rt: &impl Print, line: Line, bytes: &[u8], out: &mut [i32]) -> io::Res
         report::front(bytes, lent),
         report::front_mut(out, wanted),
     );
-    report::call(rt, "errors", &line.operands[..3], answer)?;
+    report::call_and_answer(rt, "errors", &line.operands[..3], answer)?;
     println!(rt; " {}", report::checksum(out))
 }
 
@@ -36,7 +36,7 @@ fn multipliers(rt: &impl Print, line: Line, bytes: &[u8], out: &mut [i32]) -> io
         first,
         report::front_mut(out, wanted),
     );
-    report::call(rt, "multipliers", &line.operands[3..7], answer)?;
+    report::call_and_answer(rt, "multipliers", &line.operands[3..7], answer)?;
     println!(rt; " {}", report::checksum(out))
 }
 

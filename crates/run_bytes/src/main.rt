@@ -68,7 +68,7 @@ fn fill(filling: Filling, line: Line, store: &mut [u8]) {
     match filling {
         Filling::Pattern => report::fill_bytes(part, told),
         Filling::Byte => part.fill(report::low_byte(told)),
-        Filling::Random => report::random::fill(part, told, slice, report::low_byte),
+        Filling::Random => report::random::fill(part, told, slice),
     }
 }
 

@@ -17,7 +17,7 @@ fn hashed(
     if 0 < sample {
         return print!(rt; " {}", Hex(report::front(out, sample)));
     }
-    report::call(rt, name, lengths, answer)?;
+    report::call_and_answer(rt, name, lengths, answer)?;
     println!(rt; " {}", report::checksum(out))
 }
 

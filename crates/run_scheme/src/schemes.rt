@@ -154,7 +154,7 @@ pub fn make(rt: &impl Print, call: Call, line: Line, store: &mut [u8]) -> io::Re
         0 => Ok(()),
         2 => report::answer(rt, answer),
         _ => {
-            report::call(rt, call.name(), &line.operands[1..3], answer)?;
+            report::call_and_answer(rt, call.name(), &line.operands[1..3], answer)?;
             print_made(rt, call, store)?;
             println!(rt; " {}", checksum(&work))
         }

@@ -40,12 +40,7 @@ pub fn keep(store: &mut [u8], from: usize, n: usize, bytes: &[u8]) {
 // Fills a part of the store with the random bytes of a group and a slice.
 pub fn fill_random(line: Line, store: &mut [u8]) {
     let [place, count, group, slice, ..] = line.operands;
-    random::fill(
-        report::part_mut(store, place, count),
-        group,
-        slice,
-        report::low_byte,
-    );
+    random::fill(report::part_mut(store, place, count), group, slice);
 }
 
 // Fills a part of the store with the bytes of another, at most 32, again and again.

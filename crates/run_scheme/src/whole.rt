@@ -32,7 +32,9 @@ impl Outputs {
 
     // Prints the line of a call: its answer, checksums of the keys, the ciphertext and the work slice, and the message or the two shared keys themselves.
     fn print(&self, rt: &impl Print, line: Line, answer: Answer) -> io::Result<()> {
-        report::call(rt, "whole", &line.operands[..2], answer)?;
+        let [set, change, ..] = line.operands;
+        report::call(rt, b"whole", set, change)?;
+        report::answer(rt, answer)?;
         let public = checksum(report::front(&self.public, 26913));
         let secret = checksum(&self.secret);
         let sealed = checksum(&self.sealed);

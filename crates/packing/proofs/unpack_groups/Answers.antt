@@ -21,7 +21,7 @@ pub overflow_add-j : goal.overflow_add-j
 overflow_add-j c = omega (arith, bytes_passed (group_place c.args.width c.args.cmp c.requires c.loop-group.group) (omega arith))
 
 pub returns-then-bytes-j : goal.returns-then-bytes-j
-returns-then-bytes-j c = (c.loop-group.invariant.within, c.loop-group.invariant.written)
+returns-then-bytes-j c = (omega arith, c.loop-group.invariant.within, c.loop-group.invariant.written)
 
 pub loop-group-preserved : goal.loop-group-preserved
 loop-group-preserved c =
@@ -40,4 +40,4 @@ loop-group-preserved c =
 pub returns : goal.returns
 returns c =
     let done : c.loop-group.group ≡ length c.args.out.now / 8 = omega arith in
-    rw (← done) (c.loop-group.invariant.within, c.loop-group.invariant.written)
+    rw (← done) (omega arith, c.loop-group.invariant.within, c.loop-group.invariant.written)

@@ -1,7 +1,6 @@
 -- `draws::small::fill_errors` meets its contract: each turn writes the error of the next byte.
 -- Assumes nothing.
 use mathlib.Core.Path.{refl, ◌∙◌}
-use Prim.Native.Nat.{◌-◌}
 use native.Mathlib.Nat.{zero-add}
 use mir.Syntax.{w32}
 use mir.Val.{SFits}

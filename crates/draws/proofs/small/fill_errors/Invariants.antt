@@ -1,7 +1,5 @@
 -- `draws::small::fill_errors` meets its contract: each turn writes the error of the next byte.
 -- Assumes nothing.
-use Prim.Native.Nat.{◌-◌}
-use lib.ListN.{length}
 use Rattle.draws.specs.Small.{error_at}
 use Rattle.draws.proofs.Positions.{Turned}
 use Rattle.draws.proofs.small.fill_errors.Given as goal

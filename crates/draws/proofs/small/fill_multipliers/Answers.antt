@@ -1,7 +1,6 @@
 -- `draws::small::fill_multipliers` meets its contract: each turn writes the multiplier of the next position.
 -- Assumes nothing.
 use mathlib.Core.Path.{refl, ◌∙◌}
-use Prim.Native.Nat.{◌-◌}
 use mir.Syntax.{w32}
 use mir.Val.{SFits}
 use mir.Facts.{to_z-of_z}

@@ -1,7 +1,5 @@
 -- `draws::small::fill_multipliers` meets its contract: each turn writes the multiplier of the next position.
 -- Assumes nothing.
-use Prim.Native.Nat.{◌-◌}
-use lib.ListN.{length}
 use Rattle.draws.specs.Small.{multiplier_at_of}
 use Rattle.draws.proofs.Positions.{Turned}
 use Rattle.draws.proofs.small.fill_multipliers.Given as goal

@@ -2,7 +2,6 @@
 -- Assumes nothing.
 use native.Mathlib.Omega.{arith}
 use mathlib.Core.Path.{◌≡◌, sym, ◌∙◌}
-use Prim.Native.Nat.{◌-◌}
 use Rattle.draws.proofs.Positions.{lent_none, lent_more, lent_stop, lent_all}
 use Rattle.draws.proofs.small.lent_results.Goals as goal
 

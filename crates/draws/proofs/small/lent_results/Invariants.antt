@@ -1,6 +1,5 @@
 -- `draws::small::lent_results` meets its contract: the bytes of each result that the loop has passed are lent.
 -- Assumes nothing.
-use Prim.Native.Nat.{◌-◌}
 use Rattle.draws.proofs.Positions.{LentUpTo}
 use Rattle.draws.proofs.small.lent_results.Given as goal
 

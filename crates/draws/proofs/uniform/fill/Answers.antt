@@ -1,7 +1,6 @@
 -- `draws::uniform::fill` meets its contract: each turn draws one result and writes it, and none is refused.
 -- Assumes nothing.
 use mathlib.Core.Path.{refl, sym, ap, ◌∙◌}
-use Prim.Native.Nat.{◌-◌}
 use native.Mathlib.Omega.{arith}
 use Rattle.calls.proofs.Filled.{filled_whole}
 use Rattle.draws.specs.Uniform.{sample, draw_number}

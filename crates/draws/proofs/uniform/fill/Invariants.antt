@@ -1,7 +1,5 @@
 -- `draws::uniform::fill` meets its contract: each turn draws one result and writes it, and none is refused.
 -- Assumes nothing.
-use Prim.Native.Nat.{◌-◌}
-use lib.ListN.{length}
 use Rattle.draws.proofs.Results.{Filling}
 use Rattle.draws.proofs.uniform.fill.Given as goal
 

@@ -2,7 +2,6 @@
 -- Assumes nothing.
 use mathlib.Core.Path.{sym, ap, ◌∙◌}
 use native.Mathlib.Omega.{arith}
-use Prim.Native.Nat.{◌-◌}
 use Rattle.draws.specs.Uniform.{sample, draw_number}
 use Rattle.draws.proofs.Results.{looking_none, looking_more, looking_refused, looking_all}
 use Rattle.draws.proofs.uniform.look.Goals as goal

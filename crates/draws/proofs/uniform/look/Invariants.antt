@@ -1,6 +1,5 @@
 -- `draws::uniform::look` meets its contract: each turn draws one result, and the first refusal is the answer.
 -- Assumes nothing.
-use Prim.Native.Nat.{◌-◌}
 use Rattle.draws.proofs.Results.{Looking}
 use Rattle.draws.proofs.uniform.look.Given as goal
 
